@@ -1,0 +1,45 @@
+-- The refusals and their numbers (document 01, "The operations and when each refuses").
+use Prim.Native.Nat.{ℕ}
+use mathlib.Core.Bool.{Bool, true, false}
+use Rattle.board.specs.declared.refusal.Refusal.{Refusal}
+use Rattle.board.specs.declared.refusal.Refusal.the-variants.{
+  OddLength,
+  TooManyDiscs,
+  NotAPeg,
+  NoSuchRoute,
+  NoSuchIndex,
+  ShortBuffer,
+  WrongSize,
+  NoDisc,
+  SmallerInTheWay,
+  UnsoundRecord,
+  TooManyPlays,
+  BadText,
+}
+use Rattle.board.specs.declared.refusal.Verdict.{Verdict}
+use Rattle.board.specs.declared.refusal.Verdict.the-variants.{Accepted, Refused}
+
+-- Document 01's number of each refusal.
+abbrev pub number : Refusal → ℕ
+number OddLength = 1
+number TooManyDiscs = 2
+number NotAPeg = 3
+number NoSuchRoute = 4
+number NoSuchIndex = 5
+number ShortBuffer = 6
+number WrongSize = 7
+number NoDisc = 8
+number SmallerInTheWay = 9
+number UnsoundRecord = 10
+number TooManyPlays = 11
+number BadText = 12
+
+-- A check: refuse where the fault is there, else go on to the checks after it.
+abbrev pub check : Bool → Refusal → Verdict → Verdict
+check true r v = Refused r
+check false r v = v
+
+-- The first fault of two groups of checks, the second group after the first.
+abbrev pub andThen : Verdict → Verdict → Verdict
+andThen Accepted v = v
+andThen (Refused r) v = Refused r

@@ -1,0 +1,6 @@
+-- The lengths of full towers (document 01, "Rules from the papers").
+use Prim.Native.Nat.{ℕ, _-_, _^_}
+
+-- The moves that take a tower of d discs from one peg to another.
+abbrev pub towerLength : ℕ → ℕ
+towerLength d = 2 ^ d - 1
