@@ -1,27 +1,27 @@
 -- What the theorems say of the calls: when Gather and Plan accept, and that what they then answer is the fewest.
 use Prim.Native.Nat.{ℕ, _+_, _≤_, _<_}
-use mathlib.Core.Path.{_≡_, _∙_, refl, sym, ap, subst}
-use mathlib.Core.Bool.{true, false, not}
+use mathlib.Core.Path.{_≡_, _∙_, refl, sym, subst}
+use mathlib.Core.Bool.{not}
 use mathlib.Core.List.{List}
 use native.Mathlib.Omega.{arith}
 use borrow.Author.Tests.{lt-ltb, le-ltb, ltb-true, not-false}
 use lib.Dec.{ltb}
 use lib.ListN.{length, replicate}
 use Rattle.board.specs.Position.{peg, WellFormed}
-use Rattle.board.specs.Fewest.{Fewest, fewest}
-use Rattle.board.specs.Refusal.{check, andThen}
+use Rattle.board.specs.Fewest.{Fewest}
+use Rattle.board.specs.Refusal.{check}
 use Rattle.board.specs.Task.{limit, discs, start, goal, taskVerdict, positionVerdict}
 use Rattle.board.specs.declared.refusal.Refusal.the-variants.{NotAPeg}
 use Rattle.board.specs.declared.refusal.Verdict.{Verdict}
 use Rattle.board.specs.declared.refusal.Verdict.the-variants.{Accepted, Refused}
-use Rattle.board.proofs.Accepted.{SoundTask, SoundPosition, task-accepted, sound-accepted, position-accepted, check-accepted, both-accepted}
+use Rattle.board.proofs.Accepted.{SoundTask, task-accepted, sound-accepted, position-accepted, check-accepted, both-accepted}
 use Rattle.plan.specs.Gather.{gather}
 use Rattle.plan.specs.Plan.{planOf, shortest}
 use Rattle.plan.specs.Answer.{gatherVerdict, gatherAnswer, lengthOr, planAnswer, planOr}
 use Rattle.plan.specs.declared.answer.Gathered.the-variants as gathered
 use Rattle.plan.specs.declared.answer.Plan.{Plan}
 use Rattle.plan.specs.declared.answer.Planned.the-variants as planned
-use Rattle.plan.proofs.Optimal.{shortest-fewest, fewest-shortest, gather-fewest}
+use Rattle.plan.proofs.Optimal.{shortest-fewest, gather-fewest}
 
 -- A task of even length, with at most `limit` discs and pegs everywhere, is planned: with no fault Plan never refuses.
 pub plan-accepts : (t : List ℕ) → length t ≡ discs t + discs t → discs t ≤ limit → WellFormed t

@@ -1,34 +1,18 @@
 -- The distance: the plan's shortest, disc by disc. One move changes it by at most one, and some move lowers it.
 use Prim.Native.Nat.{ℕ, zero, suc, _+_, _≤_, _<_, _^_, min}
-use mathlib.Core.Path.{_≡_, _∙_, ap, sym, refl, subst}
+use mathlib.Core.Path.{_≡_, _∙_, sym, refl, subst}
 use mathlib.Core.Bool.{cond}
-use mathlib.Core.Logic.{_≢_, ⊎-elim, inl, inr}
-use native.Mathlib.Decide.{ℕ-discrete, decLt, decLe}
+use mathlib.Core.Logic.{_≢_, ⊎-elim}
+use native.Mathlib.Decide.{ℕ-discrete}
 use native.Mathlib.Omega.{arith}
-use lib.Pow.{pow-pos}
 use lib.Dec.{eqb}
 use borrow.Author.Tests.{eq-eqb, ne-eqb}
 use Rattle.board.specs.Peg.{third}
 use Rattle.plan.specs.Gather.{gather}
 use Rattle.plan.specs.Plan.{direct, detour}
 use Rattle.plan.proofs.Three.{Three, three-third, three-swap, three-turn, three-flip, compare-pegs, each-peg}
-use Rattle.plan.proofs.Gathering.{Pegs, Tower, gather-home, gather-away, gather-tower, gather-shift, gather-bound, gathered-tower}
-use Rattle.plan.proofs.Step.{
-  Step,
-  Crossing,
-  Lower,
-  step-back,
-  step-more,
-  step-less,
-  step-crossing,
-  step-largest,
-  step-gather,
-  gather-lower,
-  put,
-  put-same,
-  put-other,
-  put-pegs,
-}
+use Rattle.plan.proofs.Gathering.{Pegs, Tower, gather-home, gather-away, gather-tower, gather-shift, gather-bound}
+use Rattle.plan.proofs.Step.{Step, Crossing, step-less, step-crossing, step-gather}
 
 -- The fewest moves between the discs 1 to k of p and q, as the plan has it.
 pub dist : (ℕ → ℕ) → (ℕ → ℕ) → ℕ → ℕ

@@ -1,18 +1,16 @@
 -- Laws of the gather length, for any number k of discs, counted from the smallest.
-use Prim.Native.Nat.{ℕ, zero, suc, _+_, _-_, _≤_, _<_, _^_}
+use Prim.Native.Nat.{ℕ, zero, suc, _+_, _<_, _^_}
 use mathlib.Core.Path.{_≡_, _∙_, ap, sym, refl}
-use mathlib.Core.Bool.{cond}
-use mathlib.Core.Logic.{_≢_, ⊎-elim}
+use mathlib.Core.Logic.{⊎-elim}
 use native.Mathlib.Decide.{ℕ-discrete}
 use native.Mathlib.Nat.{zero-add}
 use native.Mathlib.Omega.{arith}
 use lib.Pow.{pow-pos}
-use lib.Dec.{eqb}
 use borrow.Author.Tests.{eq-eqb, ne-eqb}
 use Rattle.board.specs.Peg.{third}
 use Rattle.board.proofs.Pegs.{third-same}
 use Rattle.plan.specs.Gather.{gather}
-use Rattle.plan.proofs.Three.{Three, three, three-third, three-swap, three-flip, compare-pegs}
+use Rattle.plan.proofs.Three.{Three, three-third, three-swap, three-flip, compare-pegs}
 
 -- Every disc is on a peg.
 abbrev pub Pegs : (ℕ → ℕ) → Type 0

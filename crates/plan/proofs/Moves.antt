@@ -1,21 +1,18 @@
 -- Legal moves of a position and moves between pegs of discs are the same thing.
-use Prim.Native.Nat.{ℕ, zero, suc, _+_, _≤_, _<_}
-use mathlib.Core.Path.{_≡_, _∙_, ap, sym, refl, subst, fun-ext}
-use mathlib.Core.List.{List, [], _∷_}
+use Prim.Native.Nat.{ℕ, _≤_}
+use mathlib.Core.Path.{_≡_, _∙_, ap, sym, refl, fun-ext}
+use mathlib.Core.List.{List}
 use mathlib.Core.Logic.{_≢_}
 use native.Mathlib.Decide.{ℕ-discrete}
 use native.Mathlib.Omega.{arith}
 use lib.ListN.{length}
-use lib.Seq.{ext-getD}
 use Rattle.board.specs.Peg.{third}
 use Rattle.board.specs.Position.{peg, WellFormed}
-use Rattle.board.specs.Move.{Move, Legal, Leads, done, next, top, moved}
+use Rattle.board.specs.Move.{Move, Legal, top, moved}
 use Rattle.board.proofs.Formed.{formed-pegs, formed-set}
-use Rattle.board.proofs.Top.{top-on, top-before, top-at, top-after, length-moved, moved-disc, moved-others}
-use Rattle.plan.proofs.Three.{Three, three}
-use Rattle.plan.proofs.Step.{Step, step-back}
-use Rattle.plan.proofs.Distance.{dist, dist-self, dist-zero, step-dist}
-use Rattle.plan.proofs.Nearer.{Nearer, dist-lower}
+use Rattle.board.proofs.Top.{top-on, top-before, top-at, top-after, moved-disc, moved-others}
+use Rattle.plan.proofs.Three.{three}
+use Rattle.plan.proofs.Step.{Step}
 
 -- A legal move leaves a well-formed position.
 pub formed-moved : (p : List ℕ) (m : Move) → WellFormed p → Legal p m → WellFormed (moved p m)

@@ -8,7 +8,7 @@ use Rattle.board.specs.Peg.{third}
 use Rattle.plan.specs.Gather.{gather}
 use Rattle.plan.proofs.Three.{Three, three-swap, three-turn, three-flip, compare-pegs}
 use Rattle.plan.proofs.Gathering.{Pegs, gather-shift, gathered-tower}
-use Rattle.plan.proofs.Step.{Step, Lower, step-back, step-more, step-largest, gather-lower, put, put-same, put-other, put-pegs}
+use Rattle.plan.proofs.Step.{Step, step-back, step-more, step-largest, gather-lower, put, put-same, put-other, put-pegs}
 use Rattle.plan.proofs.Distance.{dist, dist-none, dist-home, dist-away, dist-tower, step-dist}
 
 -- A move that brings t nearer.

@@ -1,6 +1,6 @@
 -- Nothing is shorter: the plan's shortest is the fewest moves between two positions, and gather the fewest that stack one.
 use Prim.Native.Nat.{ℕ, zero, suc, _<_, _^_, min}
-use mathlib.Core.Path.{_≡_, _∙_, sym, refl, subst}
+use mathlib.Core.Path.{_≡_, _∙_, sym, refl}
 use mathlib.Core.List.{List}
 use native.Mathlib.Decide.{ℕ-discrete, decLt}
 use native.Mathlib.Nat.{pow-le-pow-left, lt-of-lt-of-le}

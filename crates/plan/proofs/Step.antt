@@ -1,18 +1,17 @@
 -- A move between two positions, given as the peg of each disc, and what it does to the gather length.
-use Prim.Native.Nat.{ℕ, zero, suc, _+_, _-_, _≤_, _<_, _^_}
+use Prim.Native.Nat.{ℕ, zero, suc, _+_, _≤_, _<_}
 use mathlib.Core.Path.{_≡_, _∙_, ap, sym, refl, subst}
 use mathlib.Core.Bool.{cond}
-use mathlib.Core.Logic.{_≢_, _⊎_, inl, inr, ⊎-elim}
+use mathlib.Core.Logic.{_≢_, inl, inr}
 use native.Mathlib.Decide.{ℕ-discrete, decLt}
 use native.Mathlib.Omega.{arith}
-use lib.Pow.{pow-pos}
 use lib.Dec.{eqb}
 use borrow.Author.Tests.{eq-eqb, ne-eqb}
 use Rattle.board.specs.Peg.{third}
 use Rattle.board.proofs.Pegs.{third-peg, third-same, third-comm}
 use Rattle.plan.specs.Gather.{gather}
-use Rattle.plan.proofs.Three.{Three, three, three-third, three-swap, three-turn, three-flip, compare-pegs, each-peg}
-use Rattle.plan.proofs.Gathering.{Pegs, Tower, gather-home, gather-away, gather-cong, gather-tower, gather-shift, gathered-tower}
+use Rattle.plan.proofs.Three.{Three, three-swap, three-turn, three-flip, compare-pegs, each-peg}
+use Rattle.plan.proofs.Gathering.{Pegs, Tower, gather-home, gather-away, gather-tower, gather-shift, gathered-tower}
 
 -- Of k discs one goes from its peg to another, with every smaller disc on the third; the others stay.
 pub record Step (k : ℕ) (p q : ℕ → ℕ) : Type 0 where

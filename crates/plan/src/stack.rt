@@ -16,7 +16,8 @@ pub fn gather_discs(position: &[u8], k: usize, target: u8) -> u64
     }
     let below = k - 1;
     let at = position[below];
-    let rest = gather_discs(position, below, board::peg::third(target, at));
+    let next = board::peg::third(target, at);
+    let rest = gather_discs(position, below, next);
     if at == target {
         rest
     } else {
