@@ -1,8 +1,8 @@
 // Document 01's boards on Gather and Plan.
 use crate::print;
 
-// All discs on peg 0, n of them, to all on peg 2.
-fn tower_task() -> [u8; 120] {
+// 60 discs, all on peg 0, to all on peg 2.
+pub fn tower_task() -> [u8; 120] {
     let mut task = [0u8; 120];
     let mut i = 60;
     while i < 120 {

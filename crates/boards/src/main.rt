@@ -2,8 +2,10 @@
 mod boards;
 mod faults;
 mod print;
+mod routes;
 
 fn main() {
     boards::all();
     faults::all();
+    routes::all();
 }

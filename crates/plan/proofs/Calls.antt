@@ -30,7 +30,7 @@ unfolding planAnswer
 plan-accepts t even within formed = rw (sound-accepted t even within formed)
 
 -- A plan is answered only to a task with no fault, and is that task's plan.
-plan-or : (v : Verdict) (p q : Plan) → planOr v p ≡ planned.Plan q → (v ≡ Accepted) × (p ≡ q)
+pub plan-or : (v : Verdict) (p q : Plan) → planOr v p ≡ planned.Plan q → (v ≡ Accepted) × (p ≡ q)
 plan-or Accepted p q e = (refl, cc)
 plan-or (Refused r) p q e = let z : _≡_ {A = ℕ} 0 1 = cc in absurd (omega arith)
 

@@ -14,7 +14,6 @@ pub mod Optimal
 pub mod Bounds
 pub mod OneMove
 pub mod Calls
-pub mod Boards
 -- What the code's proofs cite.
 pub mod Table
 pub mod Parts

@@ -20,7 +20,7 @@ unfolding moved
 formed-moved p m hp l = formed-set p (top p (m .from)) (m .to) hp (l .to-peg)
 
 -- A legal move takes the smallest disc of its peg, past smaller ones that are all on the third peg.
-pub legal-step : (p : List ℕ) (m : Move) → WellFormed p → Legal p m → Step (length p) (peg p) (peg (moved p m))
+unfoldable pub legal-step : (p : List ℕ) (m : Move) → WellFormed p → Legal p m → Step (length p) (peg p) (peg (moved p m))
 legal-step p m hp l =
     let h = three (m .from) (m .to) (l .from-peg) (l .to-peg) (l .apart) in
     record {
@@ -37,17 +37,16 @@ legal-step p m hp l =
     }
 
 -- The move that a step makes.
-pub stepMove : {k : ℕ} {p q : ℕ → ℕ} → Step k p q → Move
+abbrev pub stepMove : {k : ℕ} {p q : ℕ → ℕ} → Step k p q → Move
 stepMove {p = p} {q = q} s = record { from = p (s .disc); to = q (s .disc) }
 
 -- Under a step the disc that moves is the smallest of its peg.
-step-top : (p : List ℕ) (q : ℕ → ℕ) (s : Step (length p) (peg p) q) → top p (peg p (s .disc)) ≡ s .disc
+pub step-top : (p : List ℕ) (q : ℕ → ℕ) (s : Step (length p) (peg p) q) → top p (peg p (s .disc)) ≡ s .disc
 step-top p q s =
     top-at p (peg p (s .disc)) (s .disc) (s .below) refl (λ e l f. s .pegs .first-third (sym f ∙ s .smaller e l))
 
 -- A step is a legal move.
 pub step-legal : (p : List ℕ) (q : ℕ → ℕ) (s : Step (length p) (peg p) q) → Legal p (stepMove s)
-unfolding stepMove
 step-legal p q s =
     let to-free : (e : ℕ) → e ≤ s .disc → peg p e ≢ q (s .disc) =
     λ e l f. elim (ℕ-discrete e (s .disc)) [
@@ -64,7 +63,6 @@ step-legal p q s =
 
 -- What it leaves is where the step goes.
 pub step-moved : (p : List ℕ) (q : ℕ → ℕ) (s : Step (length p) (peg p) q) → peg (moved p (stepMove s)) ≡ q
-unfolding stepMove
 step-moved p q s =
     fun-ext λ d.
     elim (ℕ-discrete d (s .disc)) [

@@ -23,7 +23,7 @@ pub record Step (k : ℕ) (p q : ℕ → ℕ) : Type 0 where
   pub others : (d : ℕ) → d ≢ disc → p d ≡ q d
 
 -- A move is taken back by a move.
-pub step-back : {k : ℕ} {p q : ℕ → ℕ} → Step k p q → Step k q p
+abbrev pub step-back : {k : ℕ} {p q : ℕ → ℕ} → Step k p q → Step k q p
 step-back s =
     record {
       disc = s .disc;
@@ -35,12 +35,12 @@ step-back s =
     }
 
 -- A move of fewer discs is a move of more.
-pub step-more : {k : ℕ} {p q : ℕ → ℕ} → Step k p q → Step (suc k) p q
+abbrev pub step-more : {k : ℕ} {p q : ℕ → ℕ} → Step k p q → Step (suc k) p q
 step-more s =
     record { disc = s .disc; below = omega arith; free = s .free; pegs = s .pegs; smaller = s .smaller; others = s .others }
 
 -- A move of one of k + 1 discs is a move of the largest or of one of the k smaller ones, and then the largest stays.
-pub step-less : {k : ℕ} {p q : ℕ → ℕ} (s : Step (suc k) p q) → s .disc ≢ k → Step k p q
+abbrev pub step-less : {k : ℕ} {p q : ℕ → ℕ} (s : Step (suc k) p q) → s .disc ≢ k → Step k p q
 step-less s n =
     record { disc = s .disc; below = omega arith; free = s .free; pegs = s .pegs; smaller = s .smaller; others = s .others }
 
@@ -64,7 +64,7 @@ put-pegs p d j hp hj e =
     ]
 
 -- Disc k + 1 may go to j when the smaller ones are on the third peg.
-pub step-largest : (p : ℕ → ℕ) (k j z : ℕ) → Three (p k) j z → Tower p k z → Step (suc k) p (put p k j)
+abbrev pub step-largest : (p : ℕ → ℕ) (k j z : ℕ) → Three (p k) j z → Tower p k z → Step (suc k) p (put p k j)
 step-largest p k j z h t =
     record {
       disc = k;

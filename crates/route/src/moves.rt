@@ -1,0 +1,44 @@
+// Move (document 01): any move of a shortest route, without walking it.
+ghost use mathlib.Core.Path.{_≡_};
+ghost use Prim.Native.Nat.{_<_};
+ghost use Rattle.plan.specs.Plan.{planOf, routes, shortest};
+ghost use Rattle.plan.specs.Sound.{Ends};
+ghost use Rattle.route.specs.Answer.{moveAnswer};
+ghost use Rattle.route.specs.Route.{routeOf, moveAt};
+use crate::answer::DiscMove;
+use crate::answer::Moving;
+use crate::course::Course;
+use crate::stage;
+use board::refusal::Refusal;
+use plan::answer::Plan;
+use plan::answer::Planned;
+
+// The move of a route at an index below its length.
+fn route_move(start: &[u8], goal: &[u8], p: Plan, route: u64, index: u64) -> DiscMove
+    requires { ⌜ Ends (now start) (now goal) ⌝ }
+    requires { ⌜ p ≡ planOf (now start) (now goal) ⌝ }
+    requires { ⌜ (route < routes p) × (index < shortest p) ⌝ }
+    ensures { λ r. ⌜ r ≡ moveAt (routeOf (now (start .entry)) (now (goal .entry)) route) index ⌝ }
+{
+    let c = Course::of(start, goal, p, route);
+    stage::stage_move(start, goal, c, c.stage(index))
+}
+
+// Move: the move of a shortest route at an index. Refuses with the task faults, 4 and 5.
+pub fn move_at(task: &[u8], route: u64, index: u64) -> Moving
+    ensures { λ r. ⌜ r ≡ moveAnswer (now (task .entry)) route index ⌝ }
+{
+    match plan::plan(task) {
+        Planned::Refused(why) => Moving::Refused(why),
+        Planned::Plan(p) => {
+            if p.routes() <= route {
+                return Moving::Refused(Refusal::NoSuchRoute);
+            }
+            if p.shortest() <= index {
+                return Moving::Refused(Refusal::NoSuchIndex);
+            }
+            let n = task.len() / 2;
+            Moving::Move(route_move(&task[..n], &task[n..], p, route, index))
+        }
+    }
+}

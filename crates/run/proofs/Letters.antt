@@ -1,0 +1,55 @@
+-- Laws of the letters of moves: how a buffer comes to hold one more move.
+use Prim.Native.Nat.{ℕ, zero, suc, _+_, _*_, _≤_}
+use mathlib.Core.List.{List, [], _∷_, _++_}
+use mathlib.Core.Path.{_≡_, refl, ap, _∙_}
+use native.Mathlib.Omega.{arith}
+use lib.ListN.{length, drop, set, length-append, length-drop}
+use lib.Seq.{take-at, drop-append-add, drop-drop, sets, sets-eq}
+use Rattle.route.specs.Answer.{letter}
+use Rattle.run.specs.Stepper.{stepOf}
+use Rattle.run.specs.Written.{stepsFrom, stepLetters}
+use Rattle.run.specs.declared.stepper.Stepper.{Stepper}
+
+-- Before the first move the buffer is as it was.
+pub begin : (s : Stepper) (q : ℕ → ℕ) (o : List ℕ) → o ≡ stepLetters s q 0 ++ drop (2 * 0) o
+unfolding stepLetters
+begin s q o = refl
+
+-- The moves after the first are those of the stepper after it.
+pub stepsFrom-next : (s : Stepper) (q : ℕ → ℕ) (i : ℕ) → stepsFrom (stepOf s q .stepper) q i ≡ stepsFrom s q (suc i)
+unfolding stepsFrom
+stepsFrom-next s q zero = refl
+stepsFrom-next s q (suc i) = ap (λ (t : Stepper). stepOf t q .stepper) (stepsFrom-next s q i)
+
+-- One move more has two letters more, at the end.
+letters-more : (s : Stepper) (q : ℕ → ℕ) (i : ℕ) →
+    let m = stepOf (stepsFrom s q i) q in
+    stepLetters s q (suc i) ≡ stepLetters s q i ++ (letter (m .from) ∷ letter (m .to) ∷ [])
+unfolding stepLetters stepsFrom
+letters-more s q zero = refl
+letters-more s q (suc i) = cc (letters-more (stepOf s q .stepper) q i, stepsFrom-next s q i)
+
+-- Each move has two letters.
+pub letters-length : (s : Stepper) (q : ℕ → ℕ) (i : ℕ) → length (stepLetters s q i) ≡ 2 * i
+unfolding stepLetters
+letters-length s q zero = refl
+letters-length s q (suc i) = omega (arith, letters-length (stepOf s q .stepper) q i)
+
+-- What is stored at the end of what is written is written too.
+stored : (xs vs o : List ℕ) (n : ℕ) → length xs ≡ n → n + length vs ≤ length o
+    → sets (xs ++ drop n o) n vs ≡ (xs ++ vs) ++ drop (n + length vs) o
+stored xs vs o n e h =
+    let rest : drop (n + length vs) (xs ++ drop n o) ≡ drop (n + length vs) o =
+    rw (← e) (drop-append-add xs _ (length vs) ∙ drop-drop (length vs) (length xs) o) in
+    sets-eq vs (xs ++ drop n o) n (omega (arith, length-append xs (drop n o), length-drop n o)) ∙ rw (take-at xs _ n e, rest)
+
+-- A move is written.
+pub go : (s : Stepper) (q : ℕ → ℕ) (i : ℕ) (o : List ℕ) → 2 * suc i ≤ length o →
+    let m = stepOf (stepsFrom s q i) q in
+    set (set (stepLetters s q i ++ drop (2 * i) o) (2 * i) (letter (m .from))) (suc (2 * i)) (letter (m .to))
+    ≡ stepLetters s q (suc i) ++ drop (2 * suc i) o
+go s q i o h =
+    let m = stepOf (stepsFrom s q i) q in
+    let two : 2 * suc i ≡ 2 * i + 2 = omega arith in
+    rw (letters-more s q i, two)
+    (stored (stepLetters s q i) (letter (m .from) ∷ letter (m .to) ∷ []) o (2 * i) (letters-length s q i) (omega arith))

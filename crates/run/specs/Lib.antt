@@ -1,0 +1,6 @@
+-- What Run keeps between moves, its next move, and what it writes.
+pub mod Pegs
+pub mod Stepper
+pub mod Written
+pub mod Ready
+pub mod Start
