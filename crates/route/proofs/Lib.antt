@@ -21,6 +21,7 @@ pub mod Entries
 pub mod Stages
 pub mod Found
 pub mod Locating
+pub mod Answers
 -- Disc 1's part in a gathering.
 pub mod Aim
 -- The starred boards.

@@ -51,11 +51,11 @@ plain-length ms = length-map ms plain
 
 module _ (s g : List ℕ) (size : length s ≡ length g) (hs : WellFormed s) (hg : WellFormed g) where
   -- A route goes through its positions.
-  record Through (r i : ℕ) : Type 0 where
-    there : Leads s (map plain (take i (routeOf s g r))) (after s (take i (routeOf s g r)))
-    on : Leads (after s (take i (routeOf s g r))) (map plain (drop i (routeOf s g r))) g
+  pub record Through (r i : ℕ) : Type 0 where
+    pub there : Leads s (map plain (take i (routeOf s g r))) (after s (take i (routeOf s g r)))
+    pub on : Leads (after s (take i (routeOf s g r))) (map plain (drop i (routeOf s g r))) g
 
-  through : (r : ℕ) → r < routes (planOf s g) → (i : ℕ) → Through r i
+  pub through : (r : ℕ) → r < routes (planOf s g) → (i : ℕ) → Through r i
   through r lt i =
       let w = route-walk s g size hs hg r lt in
       let c = walk-cut i (w .walk) in
@@ -99,7 +99,7 @@ module _ (s g : List ℕ) (size : length s ≡ length g) (hs : WellFormed s) (hg
       }
 
 -- Without their discs, the first moves are the first moves.
-plain-take : (i : ℕ) (ms : List DiscMove) → map plain (take i ms) ≡ take i (map plain ms)
+pub plain-take : (i : ℕ) (ms : List DiscMove) → map plain (take i ms) ≡ take i (map plain ms)
 plain-take zero ms = refl
 plain-take (suc i) [] = refl
 plain-take (suc i) (m ∷ ms) = ap (λ (l : List Move). plain m ∷ l) (plain-take i ms)

@@ -1,0 +1,37 @@
+// The most plays that a record counts: 1,000,000.
+use crate::say;
+use session::begin::begin;
+use session::lend::play_on;
+use session::record::Session;
+
+// A to B, B to C, C to A.
+fn next_peg(peg: u8) -> u8 {
+    if peg < 2 { peg + 1 } else { 0 }
+}
+
+// The record after 1,000,000 plays round the pegs, from A.
+fn played_out(session: Session) -> Session {
+    let mut held = session;
+    let mut peg: u8 = 0;
+    let mut count: u64 = 0;
+    while count < 1000000 {
+        let to = next_peg(peg);
+        let stepped = play_on(held, peg, to);
+        held = stepped.session;
+        peg = to;
+        count += 1;
+    }
+    held
+}
+
+// One disc from A to B. Round the pegs a play is toward, away and level in turn, so 1,000,000 plays are 333,334 toward, and 333,333 each
+// of the others, and they end on B. No play is taken after them, and the report stays.
+pub fn plays() {
+    io::write_all(1, b"after 1000000 plays on [0] to [1]\n");
+    let begun = begin(b"\x00\x01");
+    let after = played_out(begun.session);
+    say::report(after);
+    let legal = say::play(after, 1, 2);
+    let last = say::play(legal, 3, 0);
+    say::report(last);
+}

@@ -1,0 +1,45 @@
+-- `session::begin::opened` meets its contract: the halves of an accepted task fit the record. Assumes nothing.
+use native.Mathlib.Omega.{arith}
+use borrow.Author.Needs.{needs}
+use lib.ListN.{length-take}
+use Rattle.board.proofs.Accepted.{task-accepted}
+use Rattle.plan.proofs.Parts.{part-to-end}
+use Rattle.session.proofs.begin.opened.Statement.{statement}
+use Rattle.session.proofs.begin.opened.Tie as tie
+
+slice-aggregate-padded-array : tie.Need-slice-aggregate-padded-array
+slice-aggregate-padded-array c = simp length-take (omega arith)
+
+padded-array-requires : tie.Need-padded-array-requires
+padded-array-requires c κs =
+    let task = task-accepted _ (c .before .before .pre) in
+    omega (arith, task .start-length, task .within)
+
+sub-padded-array : tie.Need-sub-padded-array
+sub-padded-array c = search needs
+
+part-padded-array-start : tie.Need-part-padded-array-start
+part-padded-array-start c = search needs
+
+part-padded-array-end : tie.Need-part-padded-array-end
+part-padded-array-end c = search needs
+
+padded-array-requires-2 : tie.Need-padded-array-requires-2
+padded-array-requires-2 c κs =
+    let task = task-accepted _ (c .before .before .before .before .pre) in
+    rw part-to-end (omega (arith, task .goal-length, task .within))
+
+returns : tie.Need-returns
+returns c = rw (c .padded-array2 .ensures, c .before .before .padded-array .ensures, part-to-end)
+
+pub opened-spec : {M : Type 1} → statement M
+opened-spec =
+    tie.close
+    (tie.spec
+    slice-aggregate-padded-array
+    padded-array-requires
+    sub-padded-array
+    part-padded-array-start
+    part-padded-array-end
+    padded-array-requires-2
+    returns)
