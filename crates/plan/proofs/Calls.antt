@@ -52,7 +52,7 @@ unfolding gatherAnswer gatherVerdict positionVerdict
 gather-accepts p j within formed hj = rw (le-ltb limit (length p) within, formed, lt-ltb j 3 hj)
 
 -- A length is answered only to a call with no fault, and is that call's.
-length-or : (v : Verdict) (n k : ℕ) → lengthOr v n ≡ gathered.Length k → (v ≡ Accepted) × (n ≡ k)
+pub length-or : (v : Verdict) (n k : ℕ) → lengthOr v n ≡ gathered.Length k → (v ≡ Accepted) × (n ≡ k)
 length-or Accepted n k e = (refl, cc)
 length-or (Refused r) n k e = let z : _≡_ {A = ℕ} 0 1 = cc in absurd (omega arith)
 

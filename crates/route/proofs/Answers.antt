@@ -65,7 +65,7 @@ plain-drop (suc i) [] = refl
 plain-drop (suc i) (m ∷ ms) = plain-drop i ms
 
 -- A count is answered only to a call with no fault, and is that call's.
-count-or : (v : Verdict) (n k : ℕ) → countOr v n ≡ ran.Moves k → (v ≡ Accepted) × (n ≡ k)
+pub count-or : (v : Verdict) (n k : ℕ) → countOr v n ≡ ran.Moves k → (v ≡ Accepted) × (n ≡ k)
 count-or Accepted n k e = (refl, cc)
 count-or (Refused r) n k e = let z : _≡_ {A = ℕ} 0 1 = cc in absurd (omega arith)
 

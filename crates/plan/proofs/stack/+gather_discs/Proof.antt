@@ -1,23 +1,27 @@
 -- `plan::stack::gather_discs` meets its contract, by recursion on the number of discs, which is the measure. Assumes nothing.
-use Prim.Native.Nat.{ℕ, zero, suc, _+_, _-_, _<_}
-use mathlib.Core.Path.{_≡_, refl, sym}
+use Prim.Native.Nat.{ℕ, zero, suc, _+_, _*_, _-_, _<_, _≤_, _^_, _%_}
+use mathlib.Core.Path.{_≡_, _∙_, refl, sym}
+use mathlib.Core.Bool.{Bool, true, false, not, cond}
 use mathlib.Core.Logic.{_≢_}
-use native.Mathlib.Nat.{zero-add, add-comm}
+use native.Mathlib.Nat.{add-comm, zero-mul, one-mul}
+use lib.Dec.{eqb}
+use mir.Val.{boolByte}
+use lib.Pow.{shl-exact, pow-mono}
 use native.Mathlib.Omega.{arith}
-use borrow.Author.Tests.{eq-eqb, ne-eqb}
+use borrow.Author.Needs.{needs}
 use borrow.Fn.Kinds.{In}
 use borrow.Fn.PlainCycle.{Measures, is, falls, and}
 use Rattle.board.specs.Peg.{third}
+use Rattle.board.specs.Position.{peg}
+use Rattle.board.specs.Task.{limit}
 use Rattle.board.proofs.Pegs.{third-peg}
 use Rattle.board.proofs.Formed.{formed-pegs}
 use Rattle.plan.specs.Gather.{gather}
-use Rattle.plan.specs.Tower.{towerLength}
-use Rattle.plan.proofs.Fits.{tower-more, tower-fits, gather-fits}
+use Rattle.plan.proofs.Fits.{gather-fits}
 use Rattle.plan.proofs.stack.gather_discs.Reads as reads
 use Rattle.plan.proofs.stack.gather_discs.Kinds as kinds
 use Rattle.plan.proofs.stack.+gather_discs.Lts-gather_discs as lts
 use Rattle.board.proofs.peg.third.Reads as third-reads
-use Rattle.plan.proofs.tower.length.Reads as length-reads
 use Rattle.plan.proofs.stack.+gather_discs.{statement}
 use Rattle.plan.proofs.stack.+gather_discs.Tie.{close}
 
@@ -26,19 +30,23 @@ gather-none : (p : ℕ → ℕ) (j : ℕ) → gather p 0 j ≡ 0
 unfolding gather
 gather-none p j = refl
 
--- Disc k is on its target, and the smaller ones keep it.
-gather-there : (p : ℕ → ℕ) (k j : ℕ) → k ≢ 0 → p (k - 1) ≡ j → gather p (k - 1) (third j (p (k - 1))) ≡ gather p k j
-unfolding gather
-gather-there p zero j n e = absurd (n refl)
-gather-there p (suc k) j n e = let less : suc k - 1 ≡ k = omega arith in rw (less, eq-eqb (p k) j (rw less at e)) (sym (zero-add _))
+-- The test of a disc, shifted to its place: 0 on its target, else its power of two.
+shifted : (on : Bool) (k : ℕ) → k < 64 → (boolByte (not on) * 2 ^ k) % 2 ^ 64 ≡ cond on 0 (2 ^ k)
+shifted true k l = shl-exact {a = 0} 1 k 64 (omega arith) (omega arith) ∙ zero-mul (2 ^ k)
+shifted false k l = shl-exact {a = 1} 1 k 64 (omega arith) (omega arith) ∙ one-mul (2 ^ k)
 
--- Disc k is elsewhere, and the smaller ones go to the third peg.
-gather-elsewhere :
-    (p : ℕ → ℕ) (k j : ℕ) → k ≢ 0 → p (k - 1) ≢ j → gather p (k - 1) (third j (p (k - 1))) + (towerLength (k - 1) + 1) ≡ gather p k j
+-- It fits beside any gather length.
+shifted-fits : (on : Bool) (k : ℕ) → k ≤ limit → (boolByte (not on) * 2 ^ k) % 2 ^ 64 ≤ 2 ^ limit
+shifted-fits true k l = rw (shifted true k (omega arith)) (omega arith)
+shifted-fits false k l = rw (shifted false k (omega arith)) (pow-mono l)
+
+-- Disc k adds its share, and the smaller ones go to the third peg.
+gather-more : (p : ℕ → ℕ) (k j : ℕ) → k ≢ 0 → k ≤ limit
+    → gather p (k - 1) (third j (p (k - 1))) + (boolByte (not (eqb (p (k - 1)) j)) * 2 ^ (k - 1)) % 2 ^ 64 ≡ gather p k j
 unfolding gather
-gather-elsewhere p zero j n e = absurd (n refl)
-gather-elsewhere p (suc k) j n e =
-    let less : suc k - 1 ≡ k = omega arith in rw (less, ne-eqb (p k) j (rw less at e), tower-more k) (add-comm _ _)
+gather-more p zero j n l = absurd (n refl)
+gather-more p (suc k) j n l =
+    let less : suc k - 1 ≡ k = omega arith in rw (less, shifted (eqb (p k) j) k (omega arith)) (add-comm _ _)
 
 abbrev μ-gather-discs : Measures 1 kinds.ps ℕ
 μ-gather-discs κs a = a .1 .0
@@ -53,7 +61,7 @@ module _ (t : ℕ) where
 
   -- What the calls in it ask and give.
   abbrev calls : lts.Claims
-  calls = (third-reads.Asked, third-reads.Learnt, fewer, reads.Post, length-reads.Asked, length-reads.Learnt)
+  calls = (third-reads.Asked, third-reads.Learnt, fewer, reads.Post)
 
   -- No disc is left.
   returns : lts.Need-returns calls at reads.Post
@@ -80,28 +88,24 @@ module _ (t : ℕ) where
         },
       )
 
-  length-requires : lts.Need-length-requires calls at reads.Post
-  length-requires c κs = omega arith
+  cast-result : lts.Need-cast-result calls at reads.Post
+  cast-result c = search needs
+
+  shl-result : lts.Need-shl-result calls at reads.Post
+  shl-result c = omega arith
 
   add-result : lts.Need-add-result calls at reads.Post
-  add-result c = omega (arith, tower-fits _ (length-requires (c .before) tt))
-
-  add-result-2 : lts.Need-add-result-2 calls at reads.Post
-  add-result-2 c =
-      let rest = c .before .before in
+  add-result c =
+      let given = c .before .before .before .before .before .args in
       omega (
         arith,
-        tower-fits _ (length-requires (c .before) tt),
-        gather-fits (gather-discs-requires (rest .before) (rest .gather-discs .lifetimes) .1),
+        shifted-fits (eqb (peg (given .position .now) (given .k - 1)) (given .target)) (given .k - 1) (omega arith),
+        gather-fits (gather-discs-requires (c .before) (c .gather-discs .lifetimes) .1),
       )
 
-  -- Disc k is on its target.
+  -- Disc k and the smaller ones.
   returns-2 : lts.Need-returns-2 calls at reads.Post
-  returns-2 c = cc (gather-there _ _ _ (c .before .before .before .before .if1 .left) (c .if2 .taken))
-
-  -- Disc k is elsewhere.
-  returns-3 : lts.Need-returns-3 calls at reads.Post
-  returns-3 c = cc (gather-elsewhere _ _ _ (c .before .before .before .before .before .if1 .left) (c .before .if2 .left))
+  returns-2 c = cc (gather-more _ _ _ (c .before .before .before .if1 .left) (omega arith))
 
 pub +gather-discs-spec : {M : Type 1} → statement M
 +gather-discs-spec =
@@ -111,8 +115,7 @@ pub +gather-discs-spec : {M : Type 1} → statement M
     (shared-slice-read-at t)
     (third-requires t)
     (gather-discs-requires t)
-    (length-requires t)
+    (cast-result t)
+    (shl-result t)
     (add-result t)
-    (add-result-2 t)
     (returns-2 t)
-    (returns-3 t)

@@ -1,0 +1,116 @@
+/* Measures the library beside tests/hinz.c in one run: the same inputs, alternating rounds, medians. */
+#include <inttypes.h>
+#include <stdio.h>
+#include <stdlib.h>
+#include <time.h>
+
+#include "hinz.h"
+#include "towers.h"
+
+enum { ROUNDS = 21, TASKS = 4096, RUN_BYTES = 8 << 20 };
+
+typedef uint64_t shortest_fn(const uint8_t *task, size_t len);
+typedef uint64_t run_fn(const uint8_t *task, size_t len, uint64_t route, uint64_t first, uint8_t *out, size_t out_len);
+
+static uint64_t state = 0x2545F4914F6CDD1Du;
+
+static uint64_t any(void)
+{
+    state ^= state << 13;
+    state ^= state >> 7;
+    state ^= state << 17;
+    return state;
+}
+
+static double seconds(void)
+{
+    struct timespec t;
+    clock_gettime(CLOCK_MONOTONIC, &t);
+    return (double)t.tv_sec + (double)t.tv_nsec * 1e-9;
+}
+
+static int by_size(const void *a, const void *b)
+{
+    double x = *(const double *)a, y = *(const double *)b;
+    return (x > y) - (x < y);
+}
+
+static double median(double *values)
+{
+    qsort(values, ROUNDS, sizeof *values, by_size);
+    return values[ROUNDS / 2];
+}
+
+static uint8_t tasks[TASKS][2 * TOWER_LIMIT];
+static uint64_t sink;
+
+static void make_tasks(size_t n)
+{
+    for (size_t i = 0; i < TASKS; i++)
+        for (size_t d = 0; d < 2 * n; d++)
+            tasks[i][d] = (uint8_t)(any() % 3);
+}
+
+/* Nanoseconds a call, over all tasks. */
+static double time_shortest(shortest_fn *f, size_t n)
+{
+    double begun = seconds();
+    for (size_t i = 0; i < TASKS; i++)
+        sink += f(tasks[i], 2 * n);
+    return (seconds() - begun) * 1e9 / TASKS;
+}
+
+static void bench_shortest(size_t n)
+{
+    double ours[ROUNDS], theirs[ROUNDS];
+    make_tasks(n);
+    for (int r = 0; r < ROUNDS; r++) {
+        ours[r] = time_shortest(tower_shortest, n);
+        theirs[r] = time_shortest(hinz_shortest, n);
+    }
+    double a = median(ours), b = median(theirs);
+    printf("shortest, %2zu random discs     %10.1f ns a call   %10.1f ns a call   %5.2f\n", n, a, b, a / b);
+}
+
+/* Million moves a second, filling a buffer from random indexes of random tasks of 60 discs. */
+static double time_run(run_fn *f, const uint64_t *first, uint8_t *out, size_t bytes)
+{
+    uint64_t moves = 0;
+    double begun = seconds();
+    for (size_t i = 0; i < RUN_BYTES / bytes; i++)
+        moves += f(tasks[i], 2 * TOWER_LIMIT, 0, first[i], out, bytes);
+    double taken = seconds() - begun;
+    sink += moves;
+    return (double)moves / taken * 1e-6;
+}
+
+static void bench_run(const char *size, size_t bytes, uint8_t *out)
+{
+    static uint64_t first[TASKS];
+    double ours[ROUNDS], theirs[ROUNDS];
+    make_tasks(TOWER_LIMIT);
+    for (size_t i = 0; i < TASKS; i++)
+        first[i] = any() % hinz_shortest(tasks[i], 2 * TOWER_LIMIT);
+    for (int r = 0; r < ROUNDS; r++) {
+        ours[r] = time_run(tower_run, first, out, bytes);
+        theirs[r] = time_run(hinz_run, first, out, bytes);
+    }
+    double a = median(ours), b = median(theirs);
+    printf("run into %s, 60 discs     %8.1f M moves/s   %12.1f M moves/s   %5.2f\n", size, a, b, a / b);
+}
+
+int main(void)
+{
+    uint8_t *out = malloc(4 << 20);
+    if (!out)
+        return 2;
+    printf("%d alternating rounds, medians; %d random tasks a round for shortest, %d MiB written for run\n", ROUNDS, TASKS, RUN_BYTES >> 20);
+    printf("                                 library              tests/hinz.c         ratio\n");
+    bench_shortest(10);
+    bench_shortest(30);
+    bench_shortest(60);
+    bench_run("64 KiB", 64 << 10, out);
+    bench_run(" 4 MiB", 4 << 20, out);
+    free(out);
+    return sink == 0;
+}

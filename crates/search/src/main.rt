@@ -1,0 +1,55 @@
+// A search of every pair of positions, compared with what the library answers.
+//
+// For n from 0 to 6 discs, and for each of the 3^n positions as the start, a breadth-first search over the legal moves finds the distance
+// of every position and the number of shortest lists of moves to it. It takes nothing from the library: a position is a number in base 3,
+// digit d the peg of disc d + 1, and the legal moves are told from the tops of the pegs. The answers of Plan, Move, Place, Run and Locate
+// are compared with that. A line for each n has
+//   pairs    the ordered pairs of a start and a goal
+//   sum      the distances of all of them, added up
+//   ties     the pairs with two shortest lists
+//   lengths  the pairs for which Plan's length is the distance
+//   counts   the pairs for which Plan's number of routes is the number of shortest lists
+//   routes   the routes that end at the goal, with each Move legal, Place at each index the position reached and nothing after it, and Run
+//            writing the same moves
+//   moves    the moves of all of those pairs' shortest lists, by the search
+//   located  the triples of a start, a goal and a position q for which Locate answers as the distances say: where those by way of q add up
+//            to that of the goal, the distance of q as the index and the lowest route on which Place has q there, and else Off
+//   wrong    the comparisons that fail, which lengths, counts, routes and located leave out
+// The field located is of at most 5 discs, and 0 for 6.
+mod locating;
+mod pairs;
+mod position;
+mod spread;
+mod tally;
+mod walking;
+
+use libc::STDOUT_FILENO;
+use tally::Tally;
+
+fn main() {
+    let mut n = 0;
+    while n < 7 {
+        write_line(n, pairs::all_pairs(n));
+        n += 1;
+    }
+}
+
+// Writes the line of a size.
+fn write_line(n: usize, t: Tally) {
+    io::print_decimal(STDOUT_FILENO, n as u64);
+    write_field(b" discs: pairs ", t.pairs);
+    write_field(b", sum ", t.sum);
+    write_field(b", ties ", t.ties);
+    write_field(b", lengths ", t.lengths);
+    write_field(b", counts ", t.counts);
+    write_field(b", routes ", t.routes);
+    write_field(b", moves ", t.moves);
+    write_field(b", located ", t.located);
+    write_field(b", wrong ", t.wrong);
+    io::write_all(STDOUT_FILENO, b"\n");
+}
+
+fn write_field(name: &[u8], value: u64) {
+    io::write_all(STDOUT_FILENO, name);
+    io::print_decimal(STDOUT_FILENO, value);
+}

@@ -1,0 +1,114 @@
+// Walks along the routes of a task: Move, Place and Run compared with the legal moves.
+use crate::position::NONE;
+use crate::position::after;
+use crate::position::are_pegs;
+use crate::position::top;
+use crate::position::wide;
+use crate::tally::MANY;
+use crate::tally::plus;
+use board::refusal::Verdict;
+use route::answer::Moving;
+use route::answer::Ran;
+
+// Whether Place writes a position as the one at an index of a route, and nothing after it.
+pub fn is_placed(task: &[u8], route: u64, index: u64, n: usize, position: usize) -> bool {
+    let mut bytes = [3u8; 6];
+    match route::placing::place(task, route, index, &mut bytes) {
+        Verdict::Refused(_) => false,
+        Verdict::Accepted => are_pegs(&bytes, n, position),
+    }
+}
+
+// Writes a whole route by Run, and returns the number of moves that it answers.
+fn written(task: &[u8], route: u64, letters: &mut [u8; 128]) -> u64 {
+    match run::run(task, route, 0, letters) {
+        Ran::Moves(count) => count as u64,
+        Ran::Refused(_) => MANY,
+    }
+}
+
+// Whether the letters at an index are those of a move.
+fn are_letters(letters: &[u8; 128], index: u64, from: usize, to: usize) -> bool {
+    if 64 <= index {
+        return false;
+    }
+    let at = 2 * (index as usize);
+    if 3 <= from {
+        return false;
+    }
+    if 3 <= to {
+        return false;
+    }
+    if wide(letters[at]) != 65 + from {
+        return false;
+    }
+    wide(letters[at + 1]) == 65 + to
+}
+
+// The position after a disc, counted from 1, moves between two pegs, or NONE where that is not legal.
+fn after_disc(at: usize, n: usize, disc: usize, from: usize, to: usize) -> usize {
+    if disc == 0 {
+        return NONE;
+    }
+    if top(at, n, from) != disc - 1 {
+        return NONE;
+    }
+    after(at, n, from, to)
+}
+
+// The position after the move that Move answers for an index, or NONE where that is not legal or the letters are of another move.
+fn moved(task: &[u8], route: u64, index: u64, n: usize, at: usize, letters: &[u8; 128]) -> usize {
+    match route::moves::move_at(task, route, index) {
+        Moving::Refused(_) => NONE,
+        Moving::Move(m) => {
+            let from = wide(m.from);
+            let to = wide(m.to);
+            if are_letters(letters, index, from, to) {
+                after_disc(at, n, m.disc, from, to)
+            } else {
+                NONE
+            }
+        }
+    }
+}
+
+// Whether a route of so many moves goes from a start to a goal, by Move, Place and Run alike.
+fn is_right(task: &[u8], route: u64, n: usize, start: usize, goal: usize, distance: u64) -> bool {
+    let mut letters = [0u8; 128];
+    if written(task, route, &mut letters) != distance {
+        return false;
+    }
+    let mut at = start;
+    let mut i = 0;
+    while i < distance {
+        if !is_placed(task, route, i, n, at) {
+            return false;
+        }
+        at = moved(task, route, i, n, at, &letters);
+        i += 1;
+    }
+    if !is_placed(task, route, distance, n, at) {
+        return false;
+    }
+    at == goal
+}
+
+// How many of the routes of a task, as many as it has shortest lists, are right.
+pub fn right_routes(
+    task: &[u8],
+    n: usize,
+    start: usize,
+    goal: usize,
+    distance: u64,
+    lists: u64,
+) -> u64 {
+    let mut right = 0;
+    let mut r = 0;
+    while r < lists {
+        if is_right(task, r, n, start, goal, distance) {
+            right = plus(right, 1);
+        }
+        r += 1;
+    }
+    right
+}

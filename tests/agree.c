@@ -1,0 +1,133 @@
+/* Compares the library's four calls with tests/hinz.c, answers and every byte of the buffers, on valid and damaged inputs. Inputs end
+ * where a page begins that may not be touched. */
+#include <inttypes.h>
+#include <stdio.h>
+#include <stdlib.h>
+#include <string.h>
+#include <sys/mman.h>
+#include <unistd.h>
+
+#include "hinz.h"
+#include "towers.h"
+
+enum { ROUNDS = 300000, LONGEST = 300 };
+
+static uint64_t state = 0x9E3779B97F4A7C15u;
+
+static uint64_t any(void)
+{
+    state ^= state << 13;
+    state ^= state >> 7;
+    state ^= state << 17;
+    return state;
+}
+
+static uint64_t below(uint64_t n)
+{
+    return any() % n;
+}
+
+/* The end of a page that one follows which may not be touched. */
+static uint8_t *page_end(void)
+{
+    size_t page = (size_t)sysconf(_SC_PAGESIZE);
+    uint8_t *p = mmap(NULL, 2 * page, PROT_READ | PROT_WRITE, MAP_PRIVATE | MAP_ANONYMOUS, -1, 0);
+    if (p == MAP_FAILED || mprotect(p + page, page, PROT_NONE)) {
+        perror("mmap");
+        exit(2);
+    }
+    return p + page;
+}
+
+static uint64_t calls, refusals, ties, moves;
+
+static void same(const char *call, uint64_t ours, uint64_t theirs)
+{
+    calls++;
+    refusals += TOWER_IS_REFUSED(ours);
+    if (ours != theirs) {
+        printf("%s: %" PRIu64 ", and %" PRIu64 " by hinz.c\n", call, ours, theirs);
+        exit(1);
+    }
+}
+
+/* Most tasks are valid: few discs or many, ends alike from some disc on; some are damaged in a byte or in their length. */
+static size_t make_task(uint8_t *task)
+{
+    size_t n = below(3) ? below(7) : below(63);
+    for (size_t i = 0; i < 2 * n; i++)
+        task[i] = (uint8_t)below(3);
+    if (n && !below(3))
+        for (size_t d = below(n); d < n; d++)
+            task[n + d] = task[d];
+    size_t len = 2 * n;
+    if (len && !below(16))
+        task[below(len)] = (uint8_t)(any() >> 8);
+    if (!below(16))
+        task[len++] = (uint8_t)below(3);
+    return len;
+}
+
+/* Where a run begins: mostly on the route, and close to its ends. */
+static uint64_t make_first(uint64_t length)
+{
+    switch (below(8)) {
+    case 0:
+        return 0;
+    case 1:
+        return length;
+    case 2:
+        return length + 1;
+    case 3:
+        return any();
+    case 4:
+        return length - below(length < 40 ? length + 1 : 40);
+    default:
+        return below(length + 1);
+    }
+}
+
+static void compare_run(const uint8_t *task, size_t len, uint8_t *end)
+{
+    static uint8_t before[LONGEST], theirs[LONGEST];
+    size_t room = below(4) ? below(LONGEST + 1) : below(4);
+    uint64_t length = hinz_shortest(task, len);
+    uint64_t first = make_first(TOWER_IS_REFUSED(length) ? 0 : length);
+    uint64_t route = below(8) ? below(3) : any();
+    uint8_t *out = end - room, *frame = end - LONGEST;
+    for (size_t i = 0; i < LONGEST; i++)
+        frame[i] = before[i] = (uint8_t)any();
+    memcpy(theirs, before + LONGEST - room, room);
+    uint64_t answer = tower_run(task, len, route, first, room || below(2) ? out : NULL, room);
+    same("tower_run", answer, hinz_run(task, len, route, first, theirs, room));
+    if (memcmp(frame, before, LONGEST - room) || memcmp(out, theirs, room)) {
+        printf("tower_run: bytes differ\n");
+        exit(1);
+    }
+    moves += TOWER_IS_REFUSED(answer) ? 0 : answer;
+}
+
+int main(void)
+{
+    uint8_t *task_end = page_end(), *out_end = page_end();
+    for (int i = 0; i < ROUNDS; i++) {
+        uint8_t made[128];
+        size_t len = make_task(made);
+        uint8_t *task = task_end - len;
+        memcpy(task, made, len);
+        const uint8_t *given = len || below(2) ? task : NULL;
+        uint8_t peg = (uint8_t)(below(8) ? below(3) : any() >> 8);
+        uint64_t count = tower_routes(given, len);
+        ties += count == 2;
+        same("tower_shortest", tower_shortest(given, len), hinz_shortest(task, len));
+        same("tower_routes", count, hinz_routes(task, len));
+        same("tower_gather", tower_gather(given, len, peg), hinz_gather(task, len, peg));
+        compare_run(given, len, out_end);
+        if (memcmp(task, made, len)) {
+            printf("a task's bytes changed\n");
+            return 1;
+        }
+    }
+    printf("%" PRIu64 " calls agree: %" PRIu64 " refused, %" PRIu64 " ties, %" PRIu64 " moves\n", calls, refusals, ties, moves);
+    return 0;
+}

@@ -1,0 +1,228 @@
+/* Hinz's rules in plain C. Lengths: one pass over both positions, with a table for the third peg and no branch on a peg. Runs: a route
+ * is a list of tower shifts, a single move being the shift of a tower of one disc; in a shift, move j is that of the disc whose number
+ * is one more than the trailing zeros of j, and each disc goes round the pegs in one direction. */
+#include "hinz.h"
+
+enum { LIMIT = 60, BLOCKS = 4 * LIMIT + 3 };
+
+static const uint8_t third[3][3] = {{0, 2, 1}, {2, 1, 0}, {1, 0, 2}};
+
+/* next[s][x] is the peg s steps after x. */
+static const uint8_t next[3][3] = {{0, 1, 2}, {1, 2, 0}, {2, 0, 1}};
+
+static uint64_t refused(unsigned k)
+{
+    return (uint64_t)0 - k;
+}
+
+static int only_pegs(const uint8_t *p, size_t n)
+{
+    unsigned above = 0;
+    for (size_t i = 0; i < n; i++)
+        above |= p[i] > 2;
+    return !above;
+}
+
+static uint64_t task_fault(const uint8_t *task, size_t len)
+{
+    if (len % 2)
+        return refused(1);
+    if (len / 2 > LIMIT)
+        return refused(2);
+    return only_pegs(task, len) ? 0 : refused(3);
+}
+
+uint64_t hinz_gather(const uint8_t *position, size_t n, uint8_t peg)
+{
+    if (n > LIMIT)
+        return refused(2);
+    if (!only_pegs(position, n) || peg > 2)
+        return refused(3);
+    uint64_t sum = 0;
+    unsigned target = peg;
+    for (size_t d = n; d-- > 0;) {
+        sum |= (uint64_t)(position[d] != target) << d;
+        target = third[target][position[d]];
+    }
+    return sum;
+}
+
+/* The largest disc that moves, 0 for none, its pegs, the third peg, and the lengths of the direct and the detour. */
+struct plan {
+    size_t m;
+    unsigned a, b, c;
+    uint64_t direct, detour;
+};
+
+static struct plan plan_of(const uint8_t *start, const uint8_t *goal, size_t n)
+{
+    struct plan p = {0};
+    while (n > 0 && start[n - 1] == goal[n - 1])
+        n--;
+    if (n == 0)
+        return p;
+    p.m = n;
+    p.a = start[n - 1];
+    p.b = goal[n - 1];
+    p.c = third[p.a][p.b];
+    unsigned sc = p.c, tc = p.c, sb = p.b, ta = p.a;
+    uint64_t to_c = 0, from_c = 0, to_b = 0, from_a = 0;
+    for (size_t d = n - 1; d-- > 0;) {
+        unsigned x = start[d], y = goal[d];
+        to_c |= (uint64_t)(x != sc) << d;
+        from_c |= (uint64_t)(y != tc) << d;
+        to_b |= (uint64_t)(x != sb) << d;
+        from_a |= (uint64_t)(y != ta) << d;
+        sc = third[sc][x];
+        tc = third[tc][y];
+        sb = third[sb][x];
+        ta = third[ta][y];
+    }
+    p.direct = to_c + 1 + from_c;
+    p.detour = to_b + ((uint64_t)1 << (n - 1)) + 1 + from_a;
+    return p;
+}
+
+static uint64_t shortest(const struct plan *p)
+{
+    return p->direct < p->detour ? p->direct : p->detour;
+}
+
+static uint64_t routes(const struct plan *p)
+{
+    return p->m > 0 && p->direct == p->detour ? 2 : 1;
+}
+
+uint64_t hinz_shortest(const uint8_t *task, size_t len)
+{
+    uint64_t fault = task_fault(task, len);
+    if (fault)
+        return fault;
+    struct plan p = plan_of(task, task + len / 2, len / 2);
+    return shortest(&p);
+}
+
+uint64_t hinz_routes(const uint8_t *task, size_t len)
+{
+    uint64_t fault = task_fault(task, len);
+    if (fault)
+        return fault;
+    struct plan p = plan_of(task, task + len / 2, len / 2);
+    return routes(&p);
+}
+
+/* The shift of a tower of k discs: 2^k - 1 moves. */
+struct block {
+    uint8_t k, from, to;
+};
+
+struct route {
+    size_t count;
+    struct block blocks[BLOCKS];
+};
+
+static void add(struct route *r, size_t k, unsigned from, unsigned to)
+{
+    struct block b = {(uint8_t)k, (uint8_t)from, (uint8_t)to};
+    r->blocks[r->count++] = b;
+}
+
+/* The target of each disc below k, where disc k has target `target`. */
+static void targets(const uint8_t *p, size_t k, unsigned target, uint8_t *to)
+{
+    for (size_t d = k; d-- > 0;) {
+        to[d] = (uint8_t)target;
+        target = third[target][p[d]];
+    }
+}
+
+/* Smallest disc first: each that is not on its target goes there, and the tower of the smaller ones follows it. */
+static void gathering(struct route *r, const uint8_t *p, size_t k, unsigned target)
+{
+    uint8_t to[LIMIT];
+    targets(p, k, target, to);
+    for (size_t d = 0; d < k; d++)
+        if (p[d] != to[d]) {
+            add(r, 1, p[d], to[d]);
+            add(r, d, third[p[d]][to[d]], to[d]);
+        }
+}
+
+/* The gathering run backwards. */
+static void spreading(struct route *r, const uint8_t *p, size_t k, unsigned target)
+{
+    uint8_t to[LIMIT];
+    targets(p, k, target, to);
+    for (size_t d = k; d-- > 0;)
+        if (p[d] != to[d]) {
+            add(r, d, to[d], third[p[d]][to[d]]);
+            add(r, 1, to[d], p[d]);
+        }
+}
+
+static void route_of(struct route *r, const uint8_t *start, const uint8_t *goal, const struct plan *p, int detour)
+{
+    r->count = 0;
+    if (p->m == 0)
+        return;
+    size_t k = p->m - 1;
+    gathering(r, start, k, detour ? p->b : p->c);
+    if (detour) {
+        add(r, 1, p->a, p->c);
+        add(r, k, p->b, p->a);
+        add(r, 1, p->c, p->b);
+    } else {
+        add(r, 1, p->a, p->b);
+    }
+    spreading(r, goal, k, detour ? p->a : p->c);
+}
+
+/* Writes moves of a shift after the first `done`, at most `room`, and says how many. */
+static uint64_t shift(struct block b, uint64_t done, uint8_t *out, uint64_t room)
+{
+    uint64_t left = ((uint64_t)1 << b.k) - 1 - done;
+    uint64_t count = left < room ? left : room;
+    uint8_t at[LIMIT], step[LIMIT];
+    unsigned forward = (b.to + 3u - b.from) % 3;
+    for (unsigned i = 0; i < b.k; i++) {
+        uint64_t moves = (done + ((uint64_t)1 << i)) >> (i + 1);
+        step[i] = (uint8_t)((b.k - 1 - i) % 2 ? 3 - forward : forward);
+        at[i] = (uint8_t)((b.from + step[i] * (moves % 3)) % 3);
+    }
+    for (uint64_t j = done + 1; j <= done + count; j++) {
+        int i = __builtin_ctzll(j);
+        unsigned from = at[i], to = next[step[i]][from];
+        *out++ = (uint8_t)('A' + from);
+        *out++ = (uint8_t)('A' + to);
+        at[i] = (uint8_t)to;
+    }
+    return count;
+}
+
+uint64_t hinz_run(const uint8_t *task, size_t len, uint64_t route, uint64_t first, uint8_t *out, size_t out_len)
+{
+    uint64_t fault = task_fault(task, len);
+    if (fault)
+        return fault;
+    const uint8_t *goal = task + len / 2;
+    struct plan p = plan_of(task, goal, len / 2);
+    if (route >= routes(&p))
+        return refused(4);
+    if (first > shortest(&p))
+        return refused(5);
+    if (first < shortest(&p) && out_len < 2)
+        return refused(6);
+    struct route r;
+    route_of(&r, task, goal, &p, route == 1 || p.detour < p.direct);
+    uint64_t written = 0, room = out_len / 2;
+    for (size_t i = 0; i < r.count && written < room; i++) {
+        uint64_t moves = ((uint64_t)1 << r.blocks[i].k) - 1;
+        if (first >= moves) {
+            first -= moves;
+            continue;
+        }
+        written += shift(r.blocks[i], first, out + 2 * written, room - written);
+        first = 0;
+    }
+    return written;
+}

@@ -1,0 +1,13 @@
+/* Hinz's rules in plain C, written apart from the library, to test it and to measure it by. Answers are those of towers.h. */
+#ifndef HINZ_H
+#define HINZ_H
+
+#include <stddef.h>
+#include <stdint.h>
+
+uint64_t hinz_shortest(const uint8_t *task, size_t len);
+uint64_t hinz_routes(const uint8_t *task, size_t len);
+uint64_t hinz_gather(const uint8_t *position, size_t n, uint8_t peg);
+uint64_t hinz_run(const uint8_t *task, size_t len, uint64_t route, uint64_t first, uint8_t *out, size_t out_len);
+
+#endif
