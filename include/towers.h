@@ -6,7 +6,7 @@
  * d - 1 holds the peg of disc d. A task is 2n bytes: the start's n bytes, then the goal's n bytes.
  *
  * A call answers one number. A refused call answers TOWER_REFUSED(k), that is 2^64 - k, where k is the first fault in the order that
- * the function states; it then writes nothing. A call with no fault is never refused, and its answer is below 2^63.
+ * the function states; it then writes nothing. A call with no fault is never refused, and its answer is below 2^60.
  *
  * The functions read the bytes that they are given and write nowhere but to `out`. They never allocate, block, or keep a pointer, and
  * they have no state: any number of threads may call them. A pointer may be null where its length is 0. `out` must not overlap
