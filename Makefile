@@ -48,7 +48,7 @@ example: $(OUT)/host
 $(OUT)/host-sanitized: examples/host.c $(HEADER) $(LIBRARY) | $(OUT)
 	$(C) -O1 -g $(SANITIZE) examples/host.c $(LIBRARY) -o $@
 
-$(OUT)/agree: tests/agree.c tests/hinz.c tests/hinz.h $(HEADER) $(LIBRARY) | $(OUT)
+$(OUT)/agree: tests/agree.c tests/hinz.c tests/hinz.h tests/random.h $(HEADER) $(LIBRARY) | $(OUT)
 	$(C) -O1 -g $(SANITIZE) tests/agree.c tests/hinz.c $(LIBRARY) -o $@
 
 # The example prints what tests/host.out holds, and the library agrees with an independent C, both under the sanitizers.
@@ -56,7 +56,7 @@ test: header $(OUT)/host-sanitized $(OUT)/agree
 	$(OUT)/host-sanitized | diff tests/host.out -
 	$(OUT)/agree
 
-$(OUT)/bench: bench/bench.c tests/hinz.c tests/hinz.h $(HEADER) $(LIBRARY) | $(OUT)
+$(OUT)/bench: bench/bench.c tests/hinz.c tests/hinz.h tests/random.h $(HEADER) $(LIBRARY) | $(OUT)
 	$(C) -O3 bench/bench.c tests/hinz.c $(LIBRARY) -o $@
 
 bench: $(OUT)/bench

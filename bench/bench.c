@@ -5,22 +5,13 @@
 #include <time.h>
 
 #include "hinz.h"
+#include "random.h"
 #include "towers.h"
 
 enum { ROUNDS = 21, TASKS = 4096, RUN_BYTES = 8 << 20 };
 
 typedef uint64_t shortest_fn(const uint8_t *task, size_t len);
 typedef uint64_t run_fn(const uint8_t *task, size_t len, uint64_t route, uint64_t first, uint8_t *out, size_t out_len);
-
-static uint64_t state = 0x2545F4914F6CDD1Du;
-
-static uint64_t any(void)
-{
-    state ^= state << 13;
-    state ^= state >> 7;
-    state ^= state << 17;
-    return state;
-}
 
 static double seconds(void)
 {

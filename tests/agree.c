@@ -8,19 +8,10 @@
 #include <unistd.h>
 
 #include "hinz.h"
+#include "random.h"
 #include "towers.h"
 
 enum { ROUNDS = 300000, LONGEST = 300 };
-
-static uint64_t state = 0x9E3779B97F4A7C15u;
-
-static uint64_t any(void)
-{
-    state ^= state << 13;
-    state ^= state >> 7;
-    state ^= state << 17;
-    return state;
-}
 
 static uint64_t below(uint64_t n)
 {

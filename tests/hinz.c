@@ -93,22 +93,27 @@ static uint64_t routes(const struct plan *p)
     return p->m > 0 && p->direct == p->detour ? 2 : 1;
 }
 
-uint64_t hinz_shortest(const uint8_t *task, size_t len)
+/* The plan of a task, or its fault. */
+static uint64_t planned(const uint8_t *task, size_t len, struct plan *p)
 {
     uint64_t fault = task_fault(task, len);
-    if (fault)
-        return fault;
-    struct plan p = plan_of(task, task + len / 2, len / 2);
-    return shortest(&p);
+    if (!fault)
+        *p = plan_of(task, task + len / 2, len / 2);
+    return fault;
+}
+
+uint64_t hinz_shortest(const uint8_t *task, size_t len)
+{
+    struct plan p;
+    uint64_t fault = planned(task, len, &p);
+    return fault ? fault : shortest(&p);
 }
 
 uint64_t hinz_routes(const uint8_t *task, size_t len)
 {
-    uint64_t fault = task_fault(task, len);
-    if (fault)
-        return fault;
-    struct plan p = plan_of(task, task + len / 2, len / 2);
-    return routes(&p);
+    struct plan p;
+    uint64_t fault = planned(task, len, &p);
+    return fault ? fault : routes(&p);
 }
 
 /* The shift of a tower of k discs: 2^k - 1 moves. */
@@ -201,11 +206,10 @@ static uint64_t shift(struct block b, uint64_t done, uint8_t *out, uint64_t room
 
 uint64_t hinz_run(const uint8_t *task, size_t len, uint64_t route, uint64_t first, uint8_t *out, size_t out_len)
 {
-    uint64_t fault = task_fault(task, len);
+    struct plan p;
+    uint64_t fault = planned(task, len, &p);
     if (fault)
         return fault;
-    const uint8_t *goal = task + len / 2;
-    struct plan p = plan_of(task, goal, len / 2);
     if (route >= routes(&p))
         return refused(4);
     if (first > shortest(&p))
@@ -213,7 +217,7 @@ uint64_t hinz_run(const uint8_t *task, size_t len, uint64_t route, uint64_t firs
     if (first < shortest(&p) && out_len < 2)
         return refused(6);
     struct route r;
-    route_of(&r, task, goal, &p, route == 1 || p.detour < p.direct);
+    route_of(&r, task, task + len / 2, &p, route == 1 || p.detour < p.direct);
     uint64_t written = 0, room = out_len / 2;
     for (size_t i = 0; i < r.count && written < room; i++) {
         uint64_t moves = ((uint64_t)1 << r.blocks[i].k) - 1;

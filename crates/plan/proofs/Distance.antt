@@ -23,7 +23,7 @@ pub dist-none : (p q : ℕ → ℕ) → dist p q zero ≡ 0
 unfolding dist
 dist-none p q = refl
 
--- The largest disc is at home: it does not move.
+-- The largest disc is on its goal peg: it does not move.
 pub dist-home : (p q : ℕ → ℕ) (k : ℕ) → p k ≡ q k → dist p q (suc k) ≡ dist p q k
 unfolding dist
 dist-home p q k e = simp (eq-eqb (p k) (q k) e)
@@ -138,7 +138,7 @@ pub dist-self : (p : ℕ → ℕ) (k : ℕ) → dist p p k ≡ 0
 dist-self p zero = dist-none p p
 dist-self p (suc k) = dist-home p p k refl ∙ dist-self p k
 
--- At distance 0 every disc is at home.
+-- At distance 0 every disc is on its goal peg.
 pub dist-zero : (p q : ℕ → ℕ) → Pegs p → Pegs q → (k : ℕ) → dist p q k ≡ 0 → (d : ℕ) → d < k → p d ≡ q d
 dist-zero p q hp hq zero e = λ d l. absurd (omega arith)
 dist-zero p q hp hq (suc k) e =

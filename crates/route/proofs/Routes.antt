@@ -113,9 +113,9 @@ module _ (p q : ℕ → ℕ) (hp : Pegs p) (hq : Pegs q) (k z : ℕ) (h : Three 
         above = λ d l. sym (walk-above (s .walk) d (omega arith)) ∙ aside-above d l;
       }
 
-  -- It comes home.
-  pub crossing-home : Across k (gathers aside aside-pegs k (p k) (hp k) .end) (gathers q hq k (p k) (hp k) .end) (p k)
-  crossing-home =
+  -- It ends on its goal peg.
+  pub crossing-goal : Across k (gathers aside aside-pegs k (p k) (hp k) .end) (gathers q hq k (p k) (hp k) .end) (p k)
+  crossing-goal =
       let g = gathers aside aside-pegs k (p k) (hp k) in
       let t = gathers q hq k (p k) (hp k) in
       record {
@@ -144,7 +144,7 @@ module _ (p q : ℕ → ℕ) (hp : Pegs p) (hq : Pegs q) (k z : ℕ) (h : Three 
       aside-part
       (rw (← shift-list)
       (walk-append (walk-grow (omega arith) (g .walk))
-      (walk-across crossing-home (sym (walk-above (g .walk) k (omega arith)) ∙ aside-here) (sym (walk-above (t .walk) k (omega arith)))
+      (walk-across crossing-goal (sym (walk-above (g .walk) k (omega arith)) ∙ aside-here) (sym (walk-above (t .walk) k (omega arith)))
       (walk-grow (omega arith) w))))
 
   -- The detour is a walk.

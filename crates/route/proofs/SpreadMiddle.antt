@@ -62,7 +62,7 @@ pub record SpreadsOn (u q : ℕ → ℕ) (k : ℕ) (ms : List DiscMove) : Type 0
   pub pegs : Three (u disc) (q disc) (third (u disc) (q disc))
   pub moves : ms ≡ gathering u disc (third (u disc) (q disc)) ++ (carry disc (u disc) (q disc) ∷ spreading q disc (third (u disc) (q disc)))
 
--- The same of one disc more that is at home.
+-- The same of one disc more that is on its goal peg.
 spreads-more : {u v q : ℕ → ℕ} {k : ℕ} {ms : List DiscMove} → u k ≡ q k → ((d : ℕ) → u d ≡ v d) → SpreadsOn v q k ms → SpreadsOn u q (suc k) ms
 spreads-more {u} {v} {q} {k} {ms} home same s =
     let f : v ≡ u = fun-ext λ d. sym (same d) in
@@ -129,7 +129,7 @@ spreads-later q hq k w i hw n b below =
     (λ d. along-before q k w i d n b)
     below)
 
--- Disc k + 1 is at home all along.
+-- Disc k + 1 is on its goal peg all along.
 spreads-home : (q : ℕ → ℕ) (k w i : ℕ) → q k ≡ w → SpreadsOn (along q k w i) q k (drop i (spreading q k w))
     → SpreadsOn (along q (suc k) w i) q (suc k) (drop i (spreading q (suc k) w))
 spreads-home q k w i e below =

@@ -36,7 +36,7 @@ pub spreading-home : (q : ℕ → ℕ) (k : ℕ) {w : ℕ} → q k ≡ w → spr
 unfolding spreading
 spreading-home q k e = ap backwards (gathering-home q k e)
 
--- It does not: the smaller ones go as a tower to the third peg, it goes home, and they spread from there.
+-- It does not: the smaller ones go as a tower to the third peg, it goes to its goal peg, and they spread from there.
 pub spreading-away : (q : ℕ → ℕ) (k : ℕ) {w y z : ℕ} → q k ≡ y → Three w y z
     → spreading q (suc k) w ≡ gathering (λ _. w) k z ++ (carry k w y ∷ spreading q k z)
 unfolding spreading

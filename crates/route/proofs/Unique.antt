@@ -51,7 +51,7 @@ first-nearer {n} {u} {v} {t} hu s w e =
     let hv = step-pegs hu s in
     omega (arith, step-dist n v u t hv (walk-pegs hv w) (step-back s), walk-dist hv w)
 
--- A disc at home does not leave it: that would take the goal further.
+-- A disc on its goal peg does not leave it: that would take the goal further.
 home-stays : (k : ℕ) {u v : ℕ → ℕ} (t : ℕ → ℕ) → Pegs t → Crossing k u v → u k ≡ t k → dist v t (suc k) + 1 ≡ dist u t (suc k) → ⊥
 home-stays k {u} {v} t ht s e less =
     let h = s .pegs in
@@ -64,7 +64,7 @@ home-stays k {u} {v} t ht s e less =
       gather-bound t ht k (s .free) (h .third),
     )
 
--- Where the largest disc is at home, a shortest walk moves only smaller ones.
+-- Where the largest disc is on its goal peg, a shortest walk moves only smaller ones.
 pub walk-home : {k : ℕ} {u t : ℕ → ℕ} {ms : List DiscMove} → Pegs u → u k ≡ t k → Walk (suc k) u ms t
     → length ms ≡ dist u t (suc k) → Walk k u ms t
 walk-home hu home stay e = stay
@@ -112,7 +112,7 @@ shortest-below k {u} {v} {t} {m} {ms} hu hv ht n s em less (by-detour l e) =
     (lower-first k hu (t k) (ht k) s lower)))
     (omega (arith, detour-sum u t k refl refl h, detour-sum v t k same refl h))
 
--- The largest disc goes home first: the smaller ones are gathered, and the rest spreads them.
+-- The largest disc goes to its goal peg first: the smaller ones are gathered, and the rest spreads them.
 shortest-home : (k : ℕ) {u v t : ℕ → ℕ} {m : DiscMove} {ms : List DiscMove} → Pegs v → Pegs t → (c : Crossing k u v) → m ≡ carry k (u k) (v k)
     → v k ≡ t k → Walk (suc k) v ms t → length ms ≡ dist v t (suc k) → dist v t (suc k) + 1 ≡ dist u t (suc k) → Shortest u t k (m ∷ ms)
 shortest-home k {u} {v} {t} {m} {ms} hv ht c em home w e less =

@@ -15,7 +15,7 @@ use Rattle.plan.proofs.Distance.{dist, dist-home}
 use Rattle.plan.proofs.Largest.{largest-none, largest-stays, largest-moves}
 use Rattle.route.specs.Route.{routeBy, routeOf}
 
--- The largest of n discs whose pegs differ: none, or disc k + 1 with all larger ones at home.
+-- The largest of n discs whose pegs differ: none, or disc k + 1 with all larger ones on their goal pegs.
 pub data Largest (p q : ℕ → ℕ) (n : ℕ) : Type 0 where
   none : largest p q n ≡ 0 → ((d : ℕ) → d < n → p d ≡ q d) → Largest p q n
   some : (k : ℕ) → largest p q n ≡ suc k → k < n → p k ≢ q k → ((d : ℕ) → k < d → d < n → p d ≡ q d) → dist p q n ≡ dist p q (suc k) → Largest p q n

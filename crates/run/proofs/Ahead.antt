@@ -44,7 +44,7 @@ pub record Ahead (u q : ℕ → ℕ) (n : ℕ) (l : Leg) (ms : List DiscMove) : 
   pub from : u (l .disc) ≡ l .from
   pub rest : ms ≡ legMoves l u q
 
--- Discs at home above k do not change which is the largest that moves.
+-- Discs on their goal pegs above k do not change which is the largest that moves.
 largest-grow : (u q : ℕ → ℕ) (k n : ℕ) → ((d : ℕ) → k ≤ d → u d ≡ q d) → k ≤ n → largest u q n ≡ largest u q k
 largest-grow u q k zero home l = let e : 0 ≡ k = omega arith in ap (largest u q) e
 largest-grow u q k (suc n) home l =
@@ -70,7 +70,7 @@ gathering-rest u hu k j i hj l =
     let index : gather u k j - (gather u k j - i) ≡ i = omega arith in
     ap (λ (n : ℕ). drop n (gathering u k j)) (sym index) ∙ middle u hu k j (gather u k j - i) hj (omega arith)
 
--- In the middle of a spreading the next leg is that of the largest disc that is not home.
+-- In the middle of a spreading the next leg is that of the largest disc that is not on its goal peg.
 spread-ahead : (q : ℕ → ℕ) → Pegs q → (k w i n : ℕ) → w < 3 → k ≤ n → i < gather q k w → (m : ℕ) → largest (along q k w i) q n ≡ m
     → Ahead (along q k w i) q n (record { disc = m - 1; from = along q k w i (m - 1); to = q (m - 1); again = false }) (drop i (spreading q k w))
 unfolding legRest

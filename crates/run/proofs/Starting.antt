@@ -33,7 +33,7 @@ pub route-left : (s t : List ℕ) → Ends s t → (r : ℕ) → r < routes (pla
 route-left s t e r lt i =
     rw (length-drop, route-leads s t (e .same) (e .start-formed) (e .goal-formed) r lt .long)
 
--- The leg of a spreading that goes on is of a disc that is not home.
+-- The leg of a spreading that goes on is of a disc that is not on its goal peg.
 pub ahead-spreads : (c : Course) (g : Stage) {u q : ℕ → ℕ} {n : ℕ} {ms : List DiscMove} → Ahead u q n (startLeg c g u q n) ms → Spreads g u q n
 unfolding startLeg
 ahead-spreads c (Gathering r) a = tt

@@ -15,7 +15,7 @@ use Rattle.run.specs.Ready.{aside}
 use Rattle.run.specs.declared.stepper.Leg.{Leg}
 use Rattle.run.specs.declared.stepper.Stepper.{Stepper}
 
--- The leg at a stage of a course: the first crossing, the second, or the largest of n discs that is not home.
+-- The leg at a stage of a course: the first crossing, the second, or the largest of n discs that is not on its goal peg.
 unfoldable pub startLeg : Course → Stage → (ℕ → ℕ) → (ℕ → ℕ) → ℕ → Leg
 startLeg c (Gathering r) u q n =
     record { disc = c .disc; from = c .from; to = cond (c .detour) (c .free) (c .to); again = c .detour }
@@ -23,7 +23,7 @@ startLeg c (Shifting r) u q n = record { disc = c .disc; from = c .free; to = c 
 startLeg c (Spreading i) u q n =
     record { disc = largest u q n - 1; from = u (largest u q n - 1); to = q (largest u q n - 1); again = false }
 
--- Where the stage is a spreading, some of n discs is not home.
+-- Where the stage is a spreading, some of n discs is not on its goal peg.
 abbrev pub Spreads : Stage → (ℕ → ℕ) → (ℕ → ℕ) → ℕ → Type 0
 Spreads (Gathering r) u q n = Unit {0}
 Spreads (Shifting r) u q n = Unit {0}

@@ -31,7 +31,7 @@ fn aim_of(pegs: &[u8], k: usize, target: u8) -> u8
     goal
 }
 
-// The leg at a stage of a course. In a spreading it is of the largest disc that is not home.
+// The leg at a stage of a course. In a spreading it is of the largest disc that is not on its goal peg.
 fn start_leg(course: Course, stage: Stage, pegs: &[u8], goal: &[u8]) -> Leg
     requires { ⌜ length (now pegs) ≡ length (now goal) ⌝ }
     requires { ⌜ Spreads stage (peg (now pegs)) (peg (now goal)) (length (now pegs)) ⌝ }

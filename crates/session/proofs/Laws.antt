@@ -8,7 +8,7 @@ use native.Mathlib.Decide.{decLt}
 use native.Mathlib.Omega.{arith}
 use borrow.Author.Tests.{eqb-false, ltb-true, ltb-false, ne-eqb, lt-ltb, le-ltb, not-false}
 use lib.Dec.{eqb, ltb}
-use lib.ListN.{length, take, drop, replicate, set, length-append, length-replicate, length-set}
+use lib.ListN.{length, take, drop, replicate, set, length-set}
 use lib.Seq.{take-at, drop-at, set-append-left, take-set-lt}
 use Rattle.board.specs.Position.{peg, WellFormed}
 use Rattle.board.specs.Move.{Move, Legal, top, moved}
@@ -34,10 +34,6 @@ padded-take p n e = take-at p _ n e
 -- Its unused bytes are zeros.
 pub padded-drop : (p : List ℕ) (n : ℕ) → length p ≡ n → drop n (padded p) ≡ replicate (limit - length p) 0
 padded-drop p n e = drop-at p _ n e
-
--- A padded position fills its array.
-pub padded-length : (p : List ℕ) → length p ≤ limit → length (padded p) ≡ limit
-padded-length p h = simp (length-append, length-replicate) (omega arith)
 
 -- A padded position is one that a record may hold.
 pub padded-holds : (p : List ℕ) (n : ℕ) → length p ≡ n → WellFormed p → holdsPosition n (padded p) ≡ true

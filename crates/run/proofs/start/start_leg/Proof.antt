@@ -23,7 +23,7 @@ enum-told-3 c = search needs
 largest-moving-requires : tie.Need-largest-moving-requires
 largest-moving-requires c κs = search needs
 
--- Some disc is not home, and the largest of them is one of the position's.
+-- Some disc is not on its goal peg, and the largest of them is one of the position's.
 moving : (c : tie.After-largest-moving) →
     let m = c .largest-moving .result in
     (0 < m) × (m ≤ length (c .before .before .before .before .before .args .pegs .now))
@@ -50,7 +50,7 @@ returns-2 : tie.Need-returns-2
 unfolding startLeg
 returns-2 c = rw (c .enum-told2 .given .1)
 
--- The largest disc that is not home.
+-- The largest disc that is not on its goal peg.
 returns-3 : tie.Need-returns-3
 unfolding startLeg
 returns-3 c = rw (c .before .before .before .enum-told3 .given .1, c .before .before .largest-moving .ensures)
