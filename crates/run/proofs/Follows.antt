@@ -29,12 +29,12 @@ use Rattle.route.proofs.Lowering.{lower-first}
 use Rattle.route.proofs.Aim.{aim, aim-peg, aim-parity, aim-less, aim-other, aim-tower, aim-after, small-step}
 use Rattle.run.specs.Pegs.{Holds, shifted}
 use Rattle.run.specs.Ready.{aside, legRest, legMove, legMoves, Ready}
-use Rattle.run.specs.Stepper.{topOf, second, last, smallStep, otherFrom, otherTo, otherStep, spreadLeg, nextLeg, towerAim, legStep, stepOf}
+use Rattle.run.specs.Stepper.{topOf, second, last, smallTurn, otherFrom, otherTo, otherTurn, spreadLeg, nextLeg, towerAim, legTurn, Stepped, made, legStep, gatherStep, stepOf}
 use Rattle.run.specs.declared.pegs.Pegs as pegs
 use Rattle.run.specs.declared.stepper.Leg.{Leg}
 use Rattle.run.specs.declared.stepper.Stepper.{Stepper}
-use Rattle.run.specs.declared.stepper.Stepped.{Stepped}
 use Rattle.run.proofs.Held.{holds-shifted}
+use Rattle.run.proofs.Steps.{gather-small, gather-other, step-leg, step-gather}
 
 -- The stepper makes the move m, which is legal, and is then ready for the moves after it.
 pub record Follows (t : Stepped) (p : List ℕ) (q : ℕ → ℕ) (m : DiscMove) (ms : List DiscMove) : Type 0 where
@@ -48,10 +48,10 @@ record Ahead (s : Stepper) (n : ℕ) (u q : ℕ → ℕ) (ms : List DiscMove) : 
   leg-there : s .leg .disc < n
   leg-pegs : Three (s .leg .from) (s .leg .to) (aside (s .leg))
   leg-from : u (s .leg .disc) ≡ s .leg .from
-  left : s .left ≡ gather u (s .leg .disc) (aside (s .leg))
+  left : s .turn .left ≡ gather u (s .leg .disc) (aside (s .leg))
   rest : ms ≡ legMoves (s .leg) u q
-  small : s .small ≡ u 0
-  aimed : s .left % 2 ≡ 1 → s .aim ≡ aim u (s .leg .disc - 1) (aside (s .leg))
+  small : s .turn .small ≡ u 0
+  aimed : s .turn .left % 2 ≡ 1 → s .turn .aim ≡ aim u (s .leg .disc - 1) (aside (s .leg))
 
 -- A position that the arrays hold is where such a stepper is ready.
 ahead-ready : {s : Stepper} {n : ℕ} {u q : ℕ → ℕ} {ms : List DiscMove} (p : List ℕ) → Holds (s .pegs) p → WellFormed p → length p ≡ n → peg p ≡ u
@@ -89,13 +89,13 @@ step-follows {s} {p} {q} {v} r h st t em ef et ep after =
 -- The stepper makes a move from i to j within its leg.
 abbrev within : Stepper → (i j small aim : ℕ) → Stepped
 within s i j small aim =
-    record { from = i; to = j; stepper = record { pegs = shifted (s .pegs) i j; small = small; aim = aim; left = s .left - 1; leg = s .leg } }
+    made s (record { from = i; to = j; turn = record { small = small; aim = aim; left = s .turn .left - 1 } }) (s .leg)
 
 -- The gathering goes on: a step that lowers it is its first move, and the leg stays.
 goes-on : {s : Stepper} {p : List ℕ} {q v : ℕ → ℕ} {m : DiscMove} {ms : List DiscMove} → Ready s p q (m ∷ ms)
     → (st : Step (s .leg .disc) (peg p) v) → gather v (s .leg .disc) (aside (s .leg)) + 1 ≡ gather (peg p) (s .leg .disc) (aside (s .leg))
     → {i j small′ aim′ : ℕ} → i ≡ peg p (st .disc) → j ≡ v (st .disc) → small′ ≡ v 0
-    → ((s .left - 1) % 2 ≡ 1 → aim′ ≡ aim v (s .leg .disc - 1) (aside (s .leg))) → Follows (within s i j small′ aim′) p q m ms
+    → ((s .turn .left - 1) % 2 ≡ 1 → aim′ ≡ aim v (s .leg .disc - 1) (aside (s .leg))) → Follows (within s i j small′ aim′) p q m ms
 goes-on {s} {p} {q} {v} {m} {ms} r st less ei ej es ea =
     let d = s .leg .disc in
     let hu = formed-pegs p (r .formed) in
@@ -128,14 +128,14 @@ small-first u hu (suc k) j hj odd =
     rw same (record { step = small-step u k (aim u k j) (hu 0) (aim-peg u k j hj) n; is-small = refl; less = aim-less u k j n })
 
 -- So the stepper moves disc 1 to its target.
-small-follows : (s : Stepper) (p : List ℕ) (q : ℕ → ℕ) (m : DiscMove) (ms : List DiscMove) → Ready s p q (m ∷ ms) → s .left % 2 ≡ 1
-    → Follows (smallStep s) p q m ms
-unfolding smallStep
+small-follows : (s : Stepper) (p : List ℕ) (q : ℕ → ℕ) (m : DiscMove) (ms : List DiscMove) → Ready s p q (m ∷ ms) → s .turn .left % 2 ≡ 1
+    → Follows (made s (smallTurn (s .turn)) (s .leg)) p q m ms
+unfolding smallTurn
 small-follows s p q m ms r odd =
     let u = peg p in
     let a = aim u (s .leg .disc - 1) (aside (s .leg)) in
     let f = small-first u (formed-pegs p (r .formed)) (s .leg .disc) (aside (s .leg)) (r .leg-pegs .third) (rw (← r .left) odd) in
-    let goal : s .aim ≡ put u 0 a 0 = r .aimed odd ∙ sym (put-same u 0 a) in
+    let goal : s .turn .aim ≡ put u 0 a 0 = r .aimed odd ∙ sym (put-same u 0 a) in
     goes-on r (f .step) (f .less) (rw (f .is-small) (r .small)) (rw (f .is-small) goal) goal (λ e. absurd (omega arith))
 
 -- A step of a disc above 1 lowers the gathering and gives disc 1 its next target.
@@ -159,8 +159,8 @@ other-first u hu (suc k) j hj l even =
 
 -- The stepper's move without disc 1 is from i to j.
 record Between (s : Stepper) (i j : ℕ) : Type 0 where
-  from : otherFrom s ≡ i
-  to : otherTo s ≡ j
+  from : otherFrom (s .pegs .top) (s .turn .small) ≡ i
+  to : otherTo (s .pegs .top) (s .turn .small) ≡ j
 
 -- The two pegs without disc 1 are the others of three.
 two-others : (i : ℕ) → i < 3 → Three (second i) (last i) i
@@ -175,34 +175,34 @@ middle {i} {j} {k} h =
     each-peg (λ a. a ≢ i → a ≢ k → a ≡ j) h (λ n o. absurd (n refl)) (λ n o. refl) (λ n o. absurd (o refl))
 
 -- Of the two pegs without disc 1 the smaller topmost disc leaves the one for the other.
-between : (s : Stepper) (p : List ℕ) {i j : ℕ} → Holds (s .pegs) p → Three i j (s .small) → top p i < top p j → Between s i j
+between : (s : Stepper) (p : List ℕ) {i j : ℕ} → Holds (s .pegs) p → Three i j (s .turn .small) → top p i < top p j → Between s i j
 unfolding otherFrom otherTo
 between s p {i} {j} w h l =
-    let g = two-others (s .small) (h .third) in
+    let g = two-others (s .turn .small) (h .third) in
     let ti = w .tops i (h .first) in
     let tj = w .tops j (h .second) in
-    elim (ℕ-discrete (second (s .small)) i) [
+    elim (ℕ-discrete (second (s .turn .small)) i) [
       | yes e ↦
-          let e′ : last (s .small) ≡ j = omega arith in
+          let e′ : last (s .turn .small) ≡ j = omega arith in
           let t = lt-ltb (topOf s i) (topOf s j) (omega arith) in
           record { from = rw (e, e′, t); to = rw (e, e′, t) }
       | no n ↦
-          let e : second (s .small) ≡ j = middle h (second (s .small)) (g .first) n (g .first-third) in
-          let e′ : last (s .small) ≡ i = omega arith in
+          let e : second (s .turn .small) ≡ j = middle h (second (s .turn .small)) (g .first) n (g .first-third) in
+          let e′ : last (s .turn .small) ≡ i = omega arith in
           let t = le-ltb (topOf s j) (topOf s i) (omega arith) in
           record { from = rw (e, e′, t); to = rw (e, e′, t) }
     ]
 
 -- So the stepper moves the other disc.
-other-follows : (s : Stepper) (p : List ℕ) (q : ℕ → ℕ) (m : DiscMove) (ms : List DiscMove) → Ready s p q (m ∷ ms) → 0 < s .left → s .left % 2 ≡ 0
-    → Follows (otherStep s) p q m ms
-unfolding otherStep
+other-follows : (s : Stepper) (p : List ℕ) (q : ℕ → ℕ) (m : DiscMove) (ms : List DiscMove) → Ready s p q (m ∷ ms) → 0 < s .turn .left → s .turn .left % 2 ≡ 0
+    → Follows (made s (otherTurn (s .pegs .top) (s .turn)) (s .leg)) p q m ms
+unfolding otherTurn
 other-follows s p q m ms r l even =
     let u = peg p in
     let d = s .leg .disc in
     let f = other-first u (formed-pegs p (r .formed)) d (aside (s .leg)) (r .leg-pegs .third) (rw (← r .left) l) (rw (← r .left) even) in
     let st = f .step in
-    let free : st .free ≡ s .small = sym (st .smaller 0 (f .above)) ∙ sym (r .small) in
+    let free : st .free ≡ s .turn .small = sym (st .smaller 0 (f .above)) ∙ sym (r .small) in
     let whole = step-grow {n = length p} (omega (arith, r .leg-there)) st in
     let disc : topOf s (u (st .disc)) ≡ suc (st .disc) = r .holds .tops (u (st .disc)) (st .pegs .first) ∙ ap suc (step-top p (f .next) whole) in
     let b = between s p (r .holds) (subst (Three (u (st .disc)) (f .next (st .disc))) free (st .pegs)) (step-legal p (f .next) whole .clear) in
@@ -269,7 +269,7 @@ tower-aim v (suc k) t h odd = let same : suc k - 1 ≡ k = omega arith in rw (sa
 
 -- A stepper that begins a leg has what the leg begins with ahead.
 begins-ahead : {l : Leg} {n w : ℕ} {v q : ℕ → ℕ} {ms : List DiscMove} (a : pegs.Pegs) (small′ : ℕ) → small′ ≡ v 0 → Begins l n v q w ms
-    → Ahead (record { pegs = a; small = small′; aim = towerAim (l .disc) w (aside l); left = towerLength (l .disc); leg = l }) n v q ms
+    → Ahead (record { pegs = a; turn = record { small = small′; aim = towerAim (l .disc) w (aside l); left = towerLength (l .disc) }; leg = l }) n v q ms
 begins-ahead {l} {n} {w} {v} {q} a small′ es b =
     let d = l .disc in
     record {
@@ -288,9 +288,9 @@ small-after u zero j i e = sym (put-same u 0 j)
 small-after u (suc d) j i e = rw (ne-eqb (suc d) 0 (omega arith)) (e ∙ sym (put-other u (suc d) j 0 (omega arith)))
 
 -- Nothing is left to gather: the leg's own move, and then the next leg.
-leg-follows : (s : Stepper) (p : List ℕ) (q : ℕ → ℕ) (m : DiscMove) (ms : List DiscMove) → Pegs q → Ready s p q (m ∷ ms) → s .left ≡ 0
+leg-follows : (s : Stepper) (p : List ℕ) (q : ℕ → ℕ) (m : DiscMove) (ms : List DiscMove) → Pegs q → Ready s p q (m ∷ ms) → s .turn .left ≡ 0
     → Follows (legStep s q) p q m ms
-unfolding legStep
+unfolding legTurn
 leg-follows s p q m ms hq r none =
     let u = peg p in
     let l = s .leg in
@@ -305,19 +305,23 @@ leg-follows s p q m ms hq r none =
     let em : m ≡ stepCarry st = cc (here, r .leg-from) in
     step-follows r (r .leg-there) st (legStep s q) em (sym (r .leg-from)) (sym here) refl
     (λ more. rw es
-    (begins-ahead _ _ (small-after u (l .disc) (l .to) (s .small) (r .small))
+    (begins-ahead _ _ (small-after u (l .disc) (l .to) (s .turn .small) (r .small))
     (next-begins (length p) v q hq (l .disc) (l .from) (l .to) (l .again) h (r .leg-there) here below (rw es at more))))
+
+-- Something is left to gather: disc 1's move or the other, within the leg.
+gather-follows : (s : Stepper) (p : List ℕ) (q : ℕ → ℕ) (m : DiscMove) (ms : List DiscMove) → Ready s p q (m ∷ ms) → s .turn .left ≢ 0
+    → Follows (gatherStep s) p q m ms
+gather-follows s p q m ms r n =
+    elim (ℕ-discrete (s .turn .left % 2) 1) [
+      | yes odd ↦ rw (gather-small (s .pegs .top) (s .turn) odd) (small-follows s p q m ms r odd)
+      | no o ↦ rw (gather-other (s .pegs .top) (s .turn) o) (other-follows s p q m ms r (omega arith) (omega arith))
+    ]
 
 -- The stepper makes the route's next move, and is ready for the moves after it.
 pub ready-step : (s : Stepper) (p : List ℕ) (q : ℕ → ℕ) (m : DiscMove) (ms : List DiscMove) → Pegs q → Ready s p q (m ∷ ms)
     → Follows (stepOf s q) p q m ms
-unfolding stepOf
 ready-step s p q m ms hq r =
-    elim (ℕ-discrete (s .left) 0) [
-      | yes e ↦ rw (eq-eqb (s .left) 0 e) (leg-follows s p q m ms hq r e)
-      | no n ↦ rw (ne-eqb (s .left) 0 n)
-          elim (ℕ-discrete (s .left % 2) 1) [
-            | yes odd ↦ rw (eq-eqb (s .left % 2) 1 odd) (small-follows s p q m ms r odd)
-            | no o ↦ rw (ne-eqb (s .left % 2) 1 o) (other-follows s p q m ms r (omega arith) (omega arith))
-          ]
+    elim (ℕ-discrete (s .turn .left) 0) [
+      | yes e ↦ rw (step-leg s q e) (leg-follows s p q m ms hq r e)
+      | no n ↦ rw (step-gather s q n) (gather-follows s p q m ms r n)
     ]

@@ -6,7 +6,7 @@ use native.Mathlib.Omega.{arith}
 use lib.ListN.{length, drop, set, length-append, length-drop}
 use lib.Seq.{take-at, drop-append-add, drop-drop, sets, sets-eq}
 use Rattle.route.specs.Answer.{letter}
-use Rattle.run.specs.Stepper.{stepOf}
+use Rattle.run.specs.Stepper.{Stepped, stepOf}
 use Rattle.run.specs.Written.{stepsFrom, stepLetters}
 use Rattle.run.specs.declared.stepper.Stepper.{Stepper}
 
@@ -43,13 +43,11 @@ stored xs vs o n e h =
     rw (← e) (drop-append-add xs _ (length vs) ∙ drop-drop (length vs) (length xs) o) in
     sets-eq vs (xs ++ drop n o) n (omega (arith, length-append xs (drop n o), length-drop n o)) ∙ rw (take-at xs _ n e, rest)
 
--- A move is written.
-pub go : (s : Stepper) (q : ℕ → ℕ) (i : ℕ) (o : List ℕ) → 2 * suc i ≤ length o →
-    let m = stepOf (stepsFrom s q i) q in
-    set (set (stepLetters s q i ++ drop (2 * i) o) (2 * i) (letter (m .from))) (suc (2 * i)) (letter (m .to))
+-- The next move, m, is written.
+pub go : (s : Stepper) (q : ℕ → ℕ) (i : ℕ) (o : List ℕ) {m : Stepped} → 2 * suc i ≤ length o → m ≡ stepOf (stepsFrom s q i) q
+    → set (set (stepLetters s q i ++ drop (2 * i) o) (2 * i) (letter (m .from))) (suc (2 * i)) (letter (m .to))
     ≡ stepLetters s q (suc i) ++ drop (2 * suc i) o
-go s q i o h =
-    let m = stepOf (stepsFrom s q i) q in
+go s q i o {m} h next =
     let two : 2 * suc i ≡ 2 * i + 2 = omega arith in
-    rw (letters-more s q i, two)
+    rw (letters-more s q i, ← next, two)
     (stored (stepLetters s q i) (letter (m .from) ∷ letter (m .to) ∷ []) o (2 * i) (letters-length s q i) (omega arith))

@@ -9,13 +9,13 @@ use Rattle.board.specs.Move.{moved}
 use Rattle.board.specs.Task.{limit}
 use Rattle.board.specs.declared.refusal.Verdict.the-variants.{Accepted}
 use Rattle.board.proofs.Formed.{formed-pegs}
-use Rattle.board.proofs.Top.{length-moved}
+use Rattle.board.proofs.Top.{top-at, length-moved}
 use Rattle.plan.proofs.Gathering.{Pegs}
 use Rattle.route.specs.Answer.{letters, written}
 use Rattle.route.specs.Route.{plain}
 use Rattle.route.specs.declared.answer.DiscMove.{DiscMove}
 use Rattle.run.specs.Ready.{Ready}
-use Rattle.run.specs.Stepper.{stepOf, Safe}
+use Rattle.run.specs.Stepper.{topOf, stepOf, Safe}
 use Rattle.run.specs.Written.{stepsFrom, stepLetters}
 use Rattle.run.specs.declared.stepper.Stepper.{Stepper}
 use Rattle.run.proofs.Follows.{ready-step}
@@ -37,6 +37,13 @@ pub ready-written : (s : Stepper) (p : List ℕ) (q : ℕ → ℕ) (ms : List Di
     → k ≤ length ms → stepLetters s q k ++ drop (2 * k) o ≡ written Accepted (letters (take k ms)) o
 ready-written s p q ms k o hq r h = rw (← ready-letters s p q ms k hq r h, letters-length s q k)
 
+-- Disc 1 is on top of its peg.
+disc-one : {s : Stepper} {p : List ℕ} {q : ℕ → ℕ} {ms : List DiscMove} → Ready s p q ms → topOf s (s .turn .small) ≡ 1
+disc-one {s} {p} r =
+    let here = r .holds .tops (peg p 0) (formed-pegs p (r .formed) 0) in
+    let first = top-at p (peg p 0) 0 (omega (arith, r .leg-there)) refl (λ e h. absurd (omega arith)) in
+    rw (r .small) (omega arith)
+
 -- A ready stepper can make its next move.
 safe-now : (s : Stepper) (p g : List ℕ) (m : DiscMove) (ms : List DiscMove) → Ready s p (peg g) (m ∷ ms) → length p ≡ length g
     → length g ≤ limit → WellFormed g → Safe s g
@@ -48,6 +55,7 @@ safe-now s p g m ms r size within formed =
       from = rw (f .from) (f .legal .from-peg);
       to = rw (f .to) (f .legal .to-peg);
       carries = rw (f .from) (omega arith, omega (arith, f .legal .there));
+      on-top = λ odd. disc-one r;
       leg-disc = λ none. omega (arith, r .leg-there);
       within = within;
       formed = formed;

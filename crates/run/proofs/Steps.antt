@@ -2,28 +2,43 @@
 use Prim.Native.Nat.{ℕ, zero, suc, _%_, _≤_, _<_}
 use mathlib.Core.Bool.{Bool, true, false, cond}
 use mathlib.Core.Logic.{_≢_}
+use mathlib.Core.List.{List}
 use mathlib.Core.Path.{_≡_}
 use native.Mathlib.Omega.{arith}
 use borrow.Author.Tests.{eq-eqb, ne-eqb, lt-ltb, le-ltb}
 use lib.Dec.{eqb}
+use lib.ListN.{length}
 use Rattle.board.specs.Peg.{third}
+use Rattle.board.specs.Position.{peg}
 use Rattle.board.proofs.Pegs.{third-peg}
-use Rattle.run.specs.Stepper.{topOf, second, last, smallStep, otherFrom, otherTo, otherStep, spreadLeg, nextLeg, legStep, stepOf}
+use Rattle.run.specs.Pegs.{arrays, shifted}
+use Rattle.run.specs.Stepper.{discOn, second, last, smallTurn, otherFrom, otherTo, otherTurn, gatherTurn, spreadLeg, nextLeg, legTurn, Stepped, legStep, gatherStep, stepOf, Carries, Safe}
 use Rattle.run.specs.declared.stepper.Leg.{Leg}
+use Rattle.run.specs.declared.stepper.Turn.{Turn}
 use Rattle.run.specs.declared.stepper.Stepper.{Stepper}
+use Rattle.run.specs.declared.stepper.Step.{Step}
 
-module _ (s : Stepper) where
+module _ (t : List ℕ) (i : ℕ) where
   -- Of the two pegs without disc 1 the first has the smaller topmost disc.
-  pub other-second : topOf s (second (s .small)) < topOf s (last (s .small))
-      → (otherFrom s ≡ second (s .small)) × (otherTo s ≡ last (s .small))
+  pub other-second : discOn t (second i) < discOn t (last i) → (otherFrom t i ≡ second i) × (otherTo t i ≡ last i)
   unfolding otherFrom otherTo
   other-second h = let yes = lt-ltb _ _ h in (rw yes, rw yes)
 
   -- The other has it.
-  pub other-last : topOf s (last (s .small)) ≤ topOf s (second (s .small))
-      → (otherFrom s ≡ last (s .small)) × (otherTo s ≡ second (s .small))
+  pub other-last : discOn t (last i) ≤ discOn t (second i) → (otherFrom t i ≡ last i) × (otherTo t i ≡ second i)
   unfolding otherFrom otherTo
   other-last h = let no = le-ltb _ _ h in (rw no, rw no)
+
+module _ (t : List ℕ) (u : Turn) where
+  -- An odd number is left to gather.
+  pub gather-small : u .left % 2 ≡ 1 → gatherTurn t u ≡ smallTurn u
+  unfolding gatherTurn
+  gather-small h = rw (eq-eqb _ _ h)
+
+  -- An even number is left.
+  pub gather-other : u .left % 2 ≢ 1 → gatherTurn t u ≡ otherTurn t u
+  unfolding gatherTurn
+  gather-other h = rw (ne-eqb _ _ h)
 
 module _ (q : ℕ → ℕ) (k w : ℕ) where
   -- A disc whose goal is the tower's peg has no leg.
@@ -79,16 +94,42 @@ module _ (q : ℕ → ℕ) (pegs : (d : ℕ) → q d < 3) where
 
 module _ (s : Stepper) (q : ℕ → ℕ) where
   -- Nothing is left to gather.
-  pub step-leg : s .left ≡ 0 → stepOf s q ≡ legStep s q
+  pub step-leg : s .turn .left ≡ 0 → stepOf s q ≡ legStep s q
   unfolding stepOf
   step-leg h = rw (eq-eqb _ _ h)
 
-  -- An odd number is left.
-  pub step-small : s .left ≢ 0 → s .left % 2 ≡ 1 → stepOf s q ≡ smallStep s
+  -- Something is left.
+  pub step-gather : s .turn .left ≢ 0 → stepOf s q ≡ gatherStep s
   unfolding stepOf
-  step-small n h = rw (ne-eqb _ _ n, eq-eqb _ _ h)
+  step-gather h = rw (ne-eqb _ _ h)
 
-  -- An even number is left.
-  pub step-other : s .left ≢ 0 → s .left % 2 ≢ 1 → stepOf s q ≡ otherStep s
-  unfolding stepOf
-  step-other n h = rw (ne-eqb _ _ n, ne-eqb _ _ h)
+module _ (s : Stepper) (g : List ℕ) (may : Safe s g) where
+  -- Where nothing is left to gather, the leg is of discs of the goal, and its peg has a disc to carry.
+  pub safe-leg : s .turn .left ≡ 0 → LegWithin (length g) (s .leg) × Carries (s .pegs .top) (s .leg .from)
+  unfolding legTurn
+  safe-leg h =
+      let is = step-leg s (peg g) h in
+      (record { disc = may .leg-disc h; from = rw is at (may .from); to = rw is at (may .to) }, rw is at (may .carries))
+
+  -- Else the gathering's move is to a peg, from one that has a disc to carry.
+  pub safe-gather : s .turn .left ≢ 0 →
+      let t = gatherTurn (s .pegs .top) (s .turn) in
+      (t .to < 3) × Carries (s .pegs .top) (t .from)
+  safe-gather h = let is = step-gather s (peg g) h in (rw is at (may .to), rw is at (may .carries))
+
+-- The stepper with the arrays t and b.
+abbrev pub standing : List ℕ → List ℕ → Turn → Leg → Stepper
+standing t b u l = record { pegs = arrays t b; turn = u; leg = l }
+
+-- What a step leaves, with the arrays t and b after it, in the leg l.
+abbrev pub stepped : Step → List ℕ → List ℕ → Leg → Stepped
+stepped r t b l = record { from = r .from; to = r .to; stepper = standing t b (r .turn) l }
+
+module _ (s : Stepper) (q : ℕ → ℕ) (r : Step) {t b : List ℕ} (held : arrays t b ≡ shifted (s .pegs) (r .from) (r .to)) where
+  -- The leg's own move, made in the arrays, is the stepper's next.
+  pub leg-made : {l : Leg} → s .turn .left ≡ 0 → l ≡ nextLeg (s .leg) q → r ≡ legTurn (s .turn) (s .leg) l → stepped r t b l ≡ stepOf s q
+  leg-made none next is = rw (step-leg s q none, ← next, ← is, held)
+
+  -- And so is a move of the gathering.
+  pub gather-made : s .turn .left ≢ 0 → r ≡ gatherTurn (s .pegs .top) (s .turn) → stepped r t b (s .leg) ≡ stepOf s q
+  gather-made some is = rw (step-gather s q some, ← is, held)

@@ -16,6 +16,10 @@ pub record Holds (a : Pegs) (p : List ℕ) : Type 0 where
   pub tops : (i : ℕ) → i < 3 → getD (a .top) i 0 ≡ suc (top p i)
   pub beneaths : (d : ℕ) → d < length p → getD (a .beneath) d 0 ≡ suc (beneath p d)
 
+-- The arrays of topmost discs t and of discs beneath b.
+abbrev pub arrays : List ℕ → List ℕ → Pegs
+arrays t b = record { top = t; beneath = b }
+
 -- The arrays after the topmost disc of peg i has gone to peg j.
 abbrev pub shifted : Pegs → ℕ → ℕ → Pegs
 shifted a i j =

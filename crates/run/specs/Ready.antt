@@ -41,7 +41,7 @@ pub record Ready (s : Stepper) (p : List ℕ) (q : ℕ → ℕ) (ms : List DiscM
   pub leg-there : s .leg .disc < length p
   pub leg-pegs : Three (s .leg .from) (s .leg .to) (aside (s .leg))
   pub leg-from : peg p (s .leg .disc) ≡ s .leg .from
-  pub left : s .left ≡ gather (peg p) (s .leg .disc) (aside (s .leg))
+  pub left : s .turn .left ≡ gather (peg p) (s .leg .disc) (aside (s .leg))
   pub rest : ms ≡ legMoves (s .leg) (peg p) q
-  pub small : s .small ≡ peg p 0
-  pub aimed : s .left % 2 ≡ 1 → s .aim ≡ aim (peg p) (s .leg .disc - 1) (aside (s .leg))
+  pub small : s .turn .small ≡ peg p 0
+  pub aimed : s .turn .left % 2 ≡ 1 → s .turn .aim ≡ aim (peg p) (s .leg .disc - 1) (aside (s .leg))

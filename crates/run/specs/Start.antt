@@ -32,7 +32,7 @@ Spreads (Spreading i) u q n = 0 < largest u q n
 -- A stepper that stands at p before the leg l.
 pub record Started (s : Stepper) (p : List ℕ) (l : Leg) : Type 0 where
   pub holds : Holds (s .pegs) p
-  pub small : s .small ≡ peg p 0
-  pub aimed : s .aim ≡ aim (peg p) (l .disc - 1) (aside l)
-  pub left : s .left ≡ gather (peg p) (l .disc) (aside l)
+  pub small : s .turn .small ≡ peg p 0
+  pub aimed : s .turn .aim ≡ aim (peg p) (l .disc - 1) (aside l)
+  pub left : s .turn .left ≡ gather (peg p) (l .disc) (aside l)
   pub leg : s .leg ≡ l

@@ -1,10 +1,9 @@
 // A position as the topmost disc of each peg and the disc beneath each disc, n + 1 for none: a move changes three numbers of it.
-ghost use mathlib.Core.Path.{_≡_};
-ghost use Prim.Native.Nat.{_<_, _≤_};
-ghost use lib.ListN.{length, getD};
+ghost use Prim.Native.Nat.{_≤_};
+ghost use lib.ListN.{length};
 ghost use Rattle.board.specs.Position.{WellFormed};
 ghost use Rattle.board.specs.Task.{limit};
-ghost use Rattle.run.specs.Pegs.{Holds, shifted};
+ghost use Rattle.run.specs.Pegs.{Holds};
 
 pub struct Pegs {
     pub top: [u8; 3],
@@ -26,28 +25,6 @@ impl Pegs {
             beneath[d] = top[peg];
             top[peg] = d as u8 + 1;
         }
-        Pegs {
-            top: top,
-            beneath: beneath,
-        }
-    }
-
-    // The arrays after the topmost disc of one peg has gone to another.
-    pub fn after(self, from: u8, to: u8) -> Pegs
-        requires { ⌜ (from < 3) × (to < 3) ⌝ }
-        requires { ⌜ (0 < getD (self .top) from 0) × (getD (self .top) from 0 ≤ limit) ⌝ }
-        ensures { λ r. ⌜ r ≡ shifted self from to ⌝ }
-    {
-        let mut top = self.top;
-        let mut beneath = self.beneath;
-        let i = from as usize;
-        let j = to as usize;
-        let disc = top[i];
-        let at = (disc - 1) as usize;
-        let under = beneath[at];
-        beneath[at] = top[j];
-        top[i] = under;
-        top[j] = disc;
         Pegs {
             top: top,
             beneath: beneath,

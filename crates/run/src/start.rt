@@ -13,6 +13,7 @@ ghost use Rattle.run.specs.Start.{startLeg, Spreads, Started};
 use crate::pegs::Pegs;
 use crate::stepper::Leg;
 use crate::stepper::Stepper;
+use crate::stepper::Turn;
 use plan::answer::Plan;
 use route::course::Course;
 use route::course::Stage;
@@ -75,9 +76,11 @@ fn stepper_at(pegs: &[u8], leg: Leg) -> Stepper
     }
     Stepper {
         pegs: Pegs::of(pegs),
-        small: pegs[0],
-        aim: aim_of(pegs, last, aside),
-        left: plan::stack::gather_discs(pegs, leg.disc, aside),
+        turn: Turn {
+            small: pegs[0],
+            aim: aim_of(pegs, last, aside),
+            left: plan::stack::gather_discs(pegs, leg.disc, aside),
+        },
         leg: leg,
     }
 }

@@ -1,10 +1,11 @@
 // The next move of a route without a fresh plan.
 ghost use mathlib.Core.Path.{_≡_};
-ghost use Prim.Native.Nat.{_<_, _≤_};
-ghost use lib.ListN.{length};
-ghost use Rattle.board.specs.Position.{peg, WellFormed};
+ghost use Prim.Native.Nat.{_%_, _<_, _≤_};
+ghost use lib.ListN.{length, getD};
+ghost use Rattle.board.specs.Position.{peg};
 ghost use Rattle.board.specs.Task.{limit};
-ghost use Rattle.run.specs.Stepper.{smallStep, otherFrom, otherStep, spreadLeg, nextLeg, towerAim, legStep, stepOf, Carries, Safe};
+ghost use Rattle.run.specs.Pegs.{arrays, shifted};
+ghost use Rattle.run.specs.Stepper.{smallTurn, otherFrom, otherTurn, gatherTurn, spreadLeg, nextLeg, towerAim, legTurn, Carries};
 use crate::pegs::Pegs;
 
 // A move of disc `disc` + 1, for which the smaller ones are gathered on the third peg; `again`: the same disc crosses once more.
@@ -15,111 +16,120 @@ pub struct Leg {
     pub again: bool,
 }
 
-// The pegs, disc 1's peg, disc 1's next target, the moves left of gathering the discs below the leg's, and the leg.
-pub struct Stepper {
-    pub pegs: Pegs,
+// Disc 1's peg, its next target, and the moves left of gathering the discs below the leg's.
+pub struct Turn {
     pub small: u8,
     pub aim: u8,
     pub left: u64,
+}
+
+// The pegs, the turn and the leg.
+pub struct Stepper {
+    pub pegs: Pegs,
+    pub turn: Turn,
     pub leg: Leg,
 }
 
-// A move, and the stepper after it.
-pub struct Stepped {
+// A move, and the turn after it.
+pub struct Step {
     pub from: u8,
     pub to: u8,
-    pub stepper: Stepper,
+    pub turn: Turn,
 }
 
-impl Stepper {
+impl Turn {
     // Disc 1 goes to its target.
-    fn small_step(self) -> Stepped
-        requires { ⌜ (0 < self .left) × (self .small < 3) × (self .aim < 3) × Carries self (self .small) ⌝ }
-        ensures { λ r. ⌜ r ≡ smallStep self ⌝ }
+    fn small_turn(self, top: &mut [u8; 3], beneath: &mut [u8; 60]) -> Step
+        requires { ⌜ (0 < self .left) × (self .small < 3) × (self .aim < 3) × (getD (now top) (self .small) 0 ≡ 1) ⌝ }
+        ensures { λ r. ⌜ r ≡ smallTurn self ⌝ }
+        ensures { λ r. ⌜ arrays (now (top .exit)) (now (beneath .exit)) ≡ shifted (arrays (now (top .entry)) (now (beneath .entry))) (r .from) (r .to) ⌝ }
     {
-        let pegs = self.pegs;
-        let leg = self.leg;
         let from = self.small;
         let to = self.aim;
-        let stepper = Stepper {
-            pegs: pegs.after(from, to),
+        let under = beneath[0];
+        beneath[0] = top[to as usize];
+        top[from as usize] = under;
+        top[to as usize] = 1;
+        let turn = Turn {
             small: to,
             aim: to,
             left: self.left - 1,
-            leg: leg,
         };
-        Stepped { from, to, stepper }
+        Step { from, to, turn }
     }
 
-    // Between the pegs without disc 1 the smaller topmost disc goes onto the larger.
-    fn other_step(self) -> Stepped
-        requires { ⌜ (0 < self .left) × (self .small < 3) × Carries self (otherFrom self) ⌝ }
-        ensures { λ r. ⌜ r ≡ otherStep self ⌝ }
+    // Between the pegs without disc 1 the smaller topmost disc goes onto the larger. Disc 1 then goes after it where its number is even,
+    // else to where it came from.
+    fn other_turn(self, top: &mut [u8; 3], beneath: &mut [u8; 60]) -> Step
+        requires { ⌜ (0 < self .left) × (self .small < 3) × Carries (now top) (otherFrom (now top) (self .small)) ⌝ }
+        ensures { λ r. ⌜ r ≡ otherTurn (now (top .entry)) self ⌝ }
+        ensures { λ r. ⌜ arrays (now (top .exit)) (now (beneath .exit)) ≡ shifted (arrays (now (top .entry)) (now (beneath .entry))) (r .from) (r .to) ⌝ }
     {
-        let pegs = self.pegs;
-        let leg = self.leg;
-        let top = pegs.top;
-        let second = (self.small + 1) % 3;
-        let last = (self.small + 2) % 3;
-        let mut from = second;
-        let mut to = last;
-        if top[last as usize] <= top[second as usize] {
-            from = last;
+        let mut from = if self.small == 2 { 0 } else { self.small + 1 };
+        let mut to = if self.small == 0 { 2 } else { self.small - 1 };
+        let mut disc = top[from as usize];
+        let mut larger = top[to as usize];
+        if larger <= disc {
+            let second = from;
+            from = to;
             to = second;
+            let less = larger;
+            larger = disc;
+            disc = less;
         }
-        let mut aim = from;
-        if top[from as usize] % 2 == 0 {
-            aim = to;
-        }
-        let stepper = Stepper {
-            pegs: pegs.after(from, to),
+        let at = (disc - 1) as usize;
+        top[from as usize] = beneath[at];
+        beneath[at] = larger;
+        top[to as usize] = disc;
+        let aim = if disc % 2 == 0 { to } else { from };
+        let turn = Turn {
             small: self.small,
             aim: aim,
             left: self.left - 1,
-            leg: leg,
         };
-        Stepped { from, to, stepper }
+        Step { from, to, turn }
+    }
+
+    // A move of the gathering: disc 1's where an odd number is left, else the other.
+    pub fn gather_turn(self, top: &mut [u8; 3], beneath: &mut [u8; 60]) -> Step
+        requires { ⌜ (0 < self .left) × (self .small < 3) × (gatherTurn (now top) self .to < 3) ⌝ }
+        requires { ⌜ Carries (now top) (gatherTurn (now top) self .from) × (self .left % 2 ≡ 1 → getD (now top) (self .small) 0 ≡ 1) ⌝ }
+        ensures { λ r. ⌜ r ≡ gatherTurn (now (top .entry)) self ⌝ }
+        ensures { λ r. ⌜ arrays (now (top .exit)) (now (beneath .exit)) ≡ shifted (arrays (now (top .entry)) (now (beneath .entry))) (r .from) (r .to) ⌝ }
+    {
+        if self.left % 2 == 1 {
+            return self.small_turn(top, beneath);
+        }
+        self.other_turn(top, beneath)
     }
 
     // The leg's own move; the next leg begins with the smaller discs as a tower.
-    fn leg_step(self, goal: &[u8]) -> Stepped
-        requires { ⌜ (self .leg .from < 3) × (self .leg .to < 3) × Carries self (self .leg .from) ⌝ }
-        requires { ⌜ (self .leg .disc ≤ length (now goal)) × (length (now goal) ≤ limit) × WellFormed (now goal) ⌝ }
-        ensures { λ r. ⌜ r ≡ legStep self (peg (now (goal .entry))) ⌝ }
+    pub fn leg_turn(self, leg: Leg, next: Leg, top: &mut [u8; 3], beneath: &mut [u8; 60]) -> Step
+        requires { ⌜ (leg .from < 3) × (leg .to < 3) × Carries (now top) (leg .from) ⌝ }
+        requires { ⌜ (next .from < 3) × (next .to < 3) × (next .disc ≤ limit) ⌝ }
+        ensures { λ r. ⌜ r ≡ legTurn self leg next ⌝ }
+        ensures { λ r. ⌜ arrays (now (top .exit)) (now (beneath .exit)) ≡ shifted (arrays (now (top .entry)) (now (beneath .entry))) (r .from) (r .to) ⌝ }
     {
-        let pegs = self.pegs;
-        let leg = self.leg;
         let from = leg.from;
         let to = leg.to;
-        let next = next_leg(leg, goal);
+        let disc = top[from as usize];
+        let at = (disc - 1) as usize;
+        let under = beneath[at];
+        beneath[at] = top[to as usize];
+        top[from as usize] = under;
+        top[to as usize] = disc;
         let tower = board::peg::third(from, to);
         let target = board::peg::third(next.from, next.to);
         let mut small = self.small;
         if leg.disc == 0 {
             small = to;
         }
-        let stepper = Stepper {
-            pegs: pegs.after(from, to),
+        let turn = Turn {
             small: small,
             aim: tower_aim(next.disc, tower, target),
             left: plan::tower::length(next.disc),
-            leg: next,
         };
-        Stepped { from, to, stepper }
-    }
-
-    // The next move: the leg's own where nothing is left to gather; disc 1's where an odd number is left; else the other.
-    pub fn next(self, goal: &[u8]) -> Stepped
-        requires { ⌜ Safe self (now goal) ⌝ }
-        ensures { λ r. ⌜ r ≡ stepOf self (peg (now (goal .entry))) ⌝ }
-    {
-        if self.left == 0 {
-            return self.leg_step(goal);
-        }
-        if self.left % 2 == 1 {
-            return self.small_step();
-        }
-        self.other_step()
+        Step { from, to, turn }
     }
 }
 
@@ -150,7 +160,7 @@ fn spread_leg(goal: &[u8], k: usize, tower: u8) -> Leg
 }
 
 // The leg after a leg.
-fn next_leg(leg: Leg, goal: &[u8]) -> Leg
+pub fn next_leg(leg: Leg, goal: &[u8]) -> Leg
     requires { ⌜ (leg .from < 3) × (leg .to < 3) × (leg .disc ≤ length (now goal)) ⌝ }
     ensures { λ r. ⌜ r ≡ nextLeg leg (peg (now (goal .entry))) ⌝ }
 {
