@@ -51,10 +51,12 @@ $(OUT)/host-sanitized: examples/host.c $(HEADER) $(LIBRARY) | $(OUT)
 $(OUT)/agree: tests/agree.c tests/hinz.c tests/hinz.h tests/random.h $(HEADER) $(LIBRARY) | $(OUT)
 	$(C) -O1 -g $(SANITIZE) tests/agree.c tests/hinz.c $(LIBRARY) -o $@
 
-# The example prints what tests/host.out holds, and the library agrees with an independent C, both under the sanitizers.
+# The example prints what tests/host.out holds, and the library agrees with an independent C, both under the sanitizers; the task
+# program answers as document 01 says.
 test: header $(OUT)/host-sanitized $(OUT)/agree
 	$(OUT)/host-sanitized | diff tests/host.out -
 	$(OUT)/agree
+	tests/tower.sh
 
 $(OUT)/bench: bench/bench.c tests/hinz.c tests/hinz.h tests/random.h $(HEADER) $(LIBRARY) | $(OUT)
 	$(C) -O3 bench/bench.c tests/hinz.c $(LIBRARY) -o $@

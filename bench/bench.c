@@ -1,4 +1,5 @@
-/* Measures the library beside tests/hinz.c in one run: the same inputs, alternating rounds, medians. */
+/* Measures the library beside tests/hinz.c in one run: the same inputs, alternating rounds, medians. Runs are measured beside both of
+ * that file's: the one with the topmost disc of each peg and the disc beneath each disc, as the library's, and the one by counting. */
 #include <inttypes.h>
 #include <stdio.h>
 #include <stdlib.h>
@@ -60,7 +61,7 @@ static void bench_shortest(size_t n)
         theirs[r] = time_shortest(hinz_shortest, n);
     }
     double a = median(ours), b = median(theirs);
-    printf("shortest, %2zu random discs     %10.1f ns a call   %10.1f ns a call   %5.2f\n", n, a, b, a / b);
+    printf("shortest, %2zu random discs       %8.1f ns a call   %12.1f ns a call   %5.2f\n", n, a, b, a / b);
 }
 
 /* Million moves a second, filling a buffer from random indexes of random tasks of 60 discs. */
@@ -75,7 +76,7 @@ static double time_run(run_fn *f, const uint64_t *first, uint8_t *out, size_t by
     return (double)moves / taken * 1e-6;
 }
 
-static void bench_run(const char *size, size_t bytes, uint8_t *out)
+static void bench_run(const char *size, size_t bytes, uint8_t *out, const char *name, run_fn *other)
 {
     static uint64_t first[TASKS];
     double ours[ROUNDS], theirs[ROUNDS];
@@ -84,10 +85,10 @@ static void bench_run(const char *size, size_t bytes, uint8_t *out)
         first[i] = any() % hinz_shortest(tasks[i], 2 * TOWER_LIMIT);
     for (int r = 0; r < ROUNDS; r++) {
         ours[r] = time_run(tower_run, first, out, bytes);
-        theirs[r] = time_run(hinz_run, first, out, bytes);
+        theirs[r] = time_run(other, first, out, bytes);
     }
     double a = median(ours), b = median(theirs);
-    printf("run into %s, 60 discs     %8.1f M moves/s   %12.1f M moves/s   %5.2f\n", size, a, b, a / b);
+    printf("run into %s, %s   %6.1f M moves/s   %10.1f M moves/s   %5.2f\n", size, name, a, b, a / b);
 }
 
 int main(void)
@@ -95,13 +96,15 @@ int main(void)
     uint8_t *out = malloc(4 << 20);
     if (!out)
         return 2;
-    printf("%d alternating rounds, medians; %d random tasks a round for shortest, %d MiB written for run\n", ROUNDS, TASKS, RUN_BYTES >> 20);
-    printf("                                 library              tests/hinz.c         ratio\n");
+    printf("%d alternating rounds, medians; %d random tasks a round for shortest; %d MiB a round for run, of 60 discs\n", ROUNDS, TASKS, RUN_BYTES >> 20);
+    printf("                                   library              tests/hinz.c         ratio\n");
     bench_shortest(10);
     bench_shortest(30);
     bench_shortest(60);
-    bench_run("64 KiB", 64 << 10, out);
-    bench_run(" 4 MiB", 4 << 20, out);
+    bench_run("64 KiB", 64 << 10, out, "stacks  ", hinz_run_stacks);
+    bench_run(" 4 MiB", 4 << 20, out, "stacks  ", hinz_run_stacks);
+    bench_run("64 KiB", 64 << 10, out, "counting", hinz_run);
+    bench_run(" 4 MiB", 4 << 20, out, "counting", hinz_run);
     free(out);
     return sink == 0;
 }

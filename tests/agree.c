@@ -80,7 +80,7 @@ static uint64_t make_first(uint64_t length)
 
 static void compare_run(const uint8_t *task, size_t len, uint8_t *end)
 {
-    static uint8_t before[LONGEST], theirs[LONGEST];
+    static uint8_t before[LONGEST], theirs[LONGEST], stacks[LONGEST];
     size_t room = below(4) ? below(LONGEST + 1) : below(4);
     uint64_t length = hinz_shortest(task, len);
     uint64_t first = make_first(TOWER_IS_REFUSED(length) ? 0 : length);
@@ -89,8 +89,13 @@ static void compare_run(const uint8_t *task, size_t len, uint8_t *end)
     for (size_t i = 0; i < LONGEST; i++)
         frame[i] = before[i] = (uint8_t)any();
     memcpy(theirs, before + LONGEST - room, room);
+    memcpy(stacks, before + LONGEST - room, room);
     uint64_t answer = tower_run(task, len, route, first, room || below(2) ? out : NULL, room);
     same("tower_run", answer, hinz_run(task, len, route, first, theirs, room));
+    if (answer != hinz_run_stacks(task, len, route, first, stacks, room) || memcmp(theirs, stacks, room)) {
+        printf("hinz.c: its two runs differ\n");
+        exit(1);
+    }
     if (memcmp(frame, before, LONGEST - room) || memcmp(out, theirs, room)) {
         printf("tower_run: bytes differ\n");
         exit(1);

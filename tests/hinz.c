@@ -1,6 +1,7 @@
 /* Hinz's rules in plain C. Lengths: one pass over both positions, with a table for the third peg and no branch on a peg. Runs: a route
- * is a list of tower shifts, a single move being the shift of a tower of one disc; in a shift, move j is that of the disc whose number
- * is one more than the trailing zeros of j, and each disc goes round the pegs in one direction. */
+ * is a list of tower shifts, a single move being the shift of a tower of one disc. In a shift, move j is that of the disc whose number
+ * is one more than the trailing zeros of j, and each disc goes round the pegs in one direction; `hinz_run_stacks` has no use of that but
+ * for disc 1, and keeps the topmost disc of each peg and the disc beneath each disc (001, section 1). */
 #include "hinz.h"
 
 enum { LIMIT = 60, BLOCKS = 4 * LIMIT + 3 };
@@ -116,9 +117,9 @@ uint64_t hinz_routes(const uint8_t *task, size_t len)
     return fault ? fault : routes(&p);
 }
 
-/* The shift of a tower of k discs: 2^k - 1 moves. */
+/* The shift of a tower of k discs, 2^k - 1 moves; or, k being 1, the move of any one disc. `disc` is the smallest of them. */
 struct block {
-    uint8_t k, from, to;
+    uint8_t disc, k, from, to;
 };
 
 struct route {
@@ -126,10 +127,15 @@ struct route {
     struct block blocks[BLOCKS];
 };
 
-static void add(struct route *r, size_t k, unsigned from, unsigned to)
+static void add(struct route *r, size_t disc, size_t k, unsigned from, unsigned to)
 {
-    struct block b = {(uint8_t)k, (uint8_t)from, (uint8_t)to};
+    struct block b = {(uint8_t)disc, (uint8_t)k, (uint8_t)from, (uint8_t)to};
     r->blocks[r->count++] = b;
+}
+
+static uint64_t moves_of(struct block b)
+{
+    return ((uint64_t)1 << b.k) - 1;
 }
 
 /* The target of each disc below k, where disc k has target `target`. */
@@ -148,8 +154,8 @@ static void gathering(struct route *r, const uint8_t *p, size_t k, unsigned targ
     targets(p, k, target, to);
     for (size_t d = 0; d < k; d++)
         if (p[d] != to[d]) {
-            add(r, 1, p[d], to[d]);
-            add(r, d, third[p[d]][to[d]], to[d]);
+            add(r, d, 1, p[d], to[d]);
+            add(r, 0, d, third[p[d]][to[d]], to[d]);
         }
 }
 
@@ -160,8 +166,8 @@ static void spreading(struct route *r, const uint8_t *p, size_t k, unsigned targ
     targets(p, k, target, to);
     for (size_t d = k; d-- > 0;)
         if (p[d] != to[d]) {
-            add(r, d, to[d], third[p[d]][to[d]]);
-            add(r, 1, to[d], p[d]);
+            add(r, 0, d, to[d], third[p[d]][to[d]]);
+            add(r, d, 1, to[d], p[d]);
         }
 }
 
@@ -173,27 +179,50 @@ static void route_of(struct route *r, const uint8_t *start, const uint8_t *goal,
     size_t k = p->m - 1;
     gathering(r, start, k, detour ? p->b : p->c);
     if (detour) {
-        add(r, 1, p->a, p->c);
-        add(r, k, p->b, p->a);
-        add(r, 1, p->c, p->b);
+        add(r, k, 1, p->a, p->c);
+        add(r, 0, k, p->b, p->a);
+        add(r, k, 1, p->c, p->b);
     } else {
-        add(r, 1, p->a, p->b);
+        add(r, k, 1, p->a, p->b);
     }
     spreading(r, goal, k, detour ? p->a : p->c);
 }
 
-/* Writes moves of a shift after the first `done`, at most `room`, and says how many. */
-static uint64_t shift(struct block b, uint64_t done, uint8_t *out, uint64_t room)
+/* The route that a call of Run asks for, or the call's fault. */
+static uint64_t run_route(const uint8_t *task, size_t len, uint64_t route, uint64_t first, size_t out_len, struct route *r)
 {
-    uint64_t left = ((uint64_t)1 << b.k) - 1 - done;
-    uint64_t count = left < room ? left : room;
-    uint8_t at[LIMIT], step[LIMIT];
+    struct plan p;
+    uint64_t fault = planned(task, len, &p);
+    if (fault)
+        return fault;
+    if (route >= routes(&p))
+        return refused(4);
+    if (first > shortest(&p))
+        return refused(5);
+    if (first < shortest(&p) && out_len < 2)
+        return refused(6);
+    route_of(r, task, task + len / 2, &p, route == 1 || p.detour < p.direct);
+    return 0;
+}
+
+/* How each disc of a block goes round the pegs, and where it is after the block's first `done` moves. */
+static void turns(struct block b, uint64_t done, uint8_t *step, uint8_t *at)
+{
     unsigned forward = (b.to + 3u - b.from) % 3;
     for (unsigned i = 0; i < b.k; i++) {
         uint64_t moves = (done + ((uint64_t)1 << i)) >> (i + 1);
         step[i] = (uint8_t)((b.k - 1 - i) % 2 ? 3 - forward : forward);
         at[i] = (uint8_t)((b.from + step[i] * (moves % 3)) % 3);
     }
+}
+
+/* Writes moves of a block after the first `done`, at most `room`, and says how many. */
+static uint64_t shift(struct block b, uint64_t done, uint8_t *out, uint64_t room)
+{
+    uint64_t left = moves_of(b) - done;
+    uint64_t count = left < room ? left : room;
+    uint8_t at[LIMIT], step[LIMIT];
+    turns(b, done, step, at);
     for (uint64_t j = done + 1; j <= done + count; j++) {
         int i = __builtin_ctzll(j);
         unsigned from = at[i], to = next[step[i]][from];
@@ -206,21 +235,13 @@ static uint64_t shift(struct block b, uint64_t done, uint8_t *out, uint64_t room
 
 uint64_t hinz_run(const uint8_t *task, size_t len, uint64_t route, uint64_t first, uint8_t *out, size_t out_len)
 {
-    struct plan p;
-    uint64_t fault = planned(task, len, &p);
+    struct route r;
+    uint64_t fault = run_route(task, len, route, first, out_len, &r);
     if (fault)
         return fault;
-    if (route >= routes(&p))
-        return refused(4);
-    if (first > shortest(&p))
-        return refused(5);
-    if (first < shortest(&p) && out_len < 2)
-        return refused(6);
-    struct route r;
-    route_of(&r, task, task + len / 2, &p, route == 1 || p.detour < p.direct);
     uint64_t written = 0, room = out_len / 2;
     for (size_t i = 0; i < r.count && written < room; i++) {
-        uint64_t moves = ((uint64_t)1 << r.blocks[i].k) - 1;
+        uint64_t moves = moves_of(r.blocks[i]);
         if (first >= moves) {
             first -= moves;
             continue;
@@ -228,5 +249,80 @@ uint64_t hinz_run(const uint8_t *task, size_t len, uint64_t route, uint64_t firs
         written += shift(r.blocks[i], first, out + 2 * written, room - written);
         first = 0;
     }
+    return written;
+}
+
+/* The topmost disc of each peg and the disc beneath each disc, n + 1 for none. Discs are numbered from 1. */
+struct stacks {
+    uint8_t top[3], beneath[LIMIT + 1];
+};
+
+static void stack_up(struct stacks *s, const uint8_t *p, size_t n)
+{
+    s->top[0] = s->top[1] = s->top[2] = (uint8_t)(n + 1);
+    for (size_t d = n; d > 0; d--) {
+        s->beneath[d] = s->top[p[d - 1]];
+        s->top[p[d - 1]] = (uint8_t)d;
+    }
+}
+
+static void carry(struct stacks *s, unsigned from, unsigned to, uint8_t *out)
+{
+    uint8_t disc = s->top[from];
+    s->top[from] = s->beneath[disc];
+    s->beneath[disc] = s->top[to];
+    s->top[to] = disc;
+    out[0] = (uint8_t)('A' + from);
+    out[1] = (uint8_t)('A' + to);
+}
+
+/* Writes moves of a block as `shift` does: every second move is disc 1's, round the pegs; between them the smaller of the two other
+ * topmost discs goes onto the larger, without a branch on which that is. */
+static uint64_t shift_stacks(struct stacks *s, struct block b, uint64_t done, uint8_t *out, uint64_t room)
+{
+    uint64_t left = moves_of(b) - done;
+    uint64_t count = left < room ? left : room;
+    if (b.k == 1) {
+        carry(s, b.from, b.to, out);
+        return 1;
+    }
+    unsigned forward = (b.to + 3u - b.from) % 3, step = b.k % 2 ? forward : 3 - forward;
+    unsigned small = s->top[0] == 1 ? 0 : s->top[1] == 1 ? 1 : 2;
+    for (uint64_t j = done + 1; j <= done + count; j++, out += 2) {
+        if (j & 1) {
+            unsigned to = next[step][small];
+            carry(s, small, to, out);
+            small = to;
+        } else {
+            unsigned x = next[1][small], y = next[2][small];
+            int less = s->top[x] < s->top[y];
+            carry(s, less ? x : y, less ? y : x, out);
+        }
+    }
+    return count;
+}
+
+uint64_t hinz_run_stacks(const uint8_t *task, size_t len, uint64_t route, uint64_t first, uint8_t *out, size_t out_len)
+{
+    struct route r;
+    uint64_t fault = run_route(task, len, route, first, out_len, &r);
+    if (fault)
+        return fault;
+    uint8_t at[LIMIT], step[LIMIT];
+    for (size_t d = 0; d < len / 2; d++)
+        at[d] = task[d];
+    size_t i = 0;
+    for (; i < r.count && first >= moves_of(r.blocks[i]); i++) {
+        first -= moves_of(r.blocks[i]);
+        for (unsigned d = 0; d < r.blocks[i].k; d++)
+            at[r.blocks[i].disc + d] = r.blocks[i].to;
+    }
+    if (i < r.count)
+        turns(r.blocks[i], first, step, at + r.blocks[i].disc);
+    struct stacks s;
+    stack_up(&s, at, len / 2);
+    uint64_t written = 0, room = out_len / 2;
+    for (; i < r.count && written < room; i++, first = 0)
+        written += shift_stacks(&s, r.blocks[i], first, out + 2 * written, room - written);
     return written;
 }

@@ -8,6 +8,8 @@
 uint64_t hinz_shortest(const uint8_t *task, size_t len);
 uint64_t hinz_routes(const uint8_t *task, size_t len);
 uint64_t hinz_gather(const uint8_t *position, size_t n, uint8_t peg);
+/* Run in two ways: by counting, and with the topmost disc of each peg and the disc beneath each disc. */
 uint64_t hinz_run(const uint8_t *task, size_t len, uint64_t route, uint64_t first, uint8_t *out, size_t out_len);
+uint64_t hinz_run_stacks(const uint8_t *task, size_t len, uint64_t route, uint64_t first, uint8_t *out, size_t out_len);
 
 #endif
