@@ -1,10 +1,10 @@
 -- Laws of well-formed positions: a position is well formed when its bytes are all pegs.
 use Prim.Native.Nat.{ℕ, zero, suc, _<_, _≤_}
-use mathlib.Core.Bool.{false, _&&_, and-eq-true-iff}
-use mathlib.Core.List.{List, [], _∷_}
+use mathlib.Core.Bool.{Bool, _&&_, and-assoc, and-eq-true-iff}
+use mathlib.Core.List.{List, [], _∷_, _++_}
 use mathlib.Core.Path.{_≡_, refl, ap}
 use native.Mathlib.Omega.{arith}
-use borrow.Author.Tests.{le-ltb, lt-ltb, ltb-true}
+use borrow.Author.Tests.{lt-ltb, ltb-true}
 use lib.Dec.{ltb}
 use lib.ListN.{length, take, drop, set, replicate, drop-of-length-le}
 use lib.Seq.{drop-cons}
@@ -53,6 +53,11 @@ formed-drop zero p h = h
 formed-drop (suc n) [] h = formed-nil
 formed-drop (suc n) (b ∷ p) h = formed-drop n p (formed-tail b p h)
 
+-- Two well-formed positions one after the other are well formed.
+pub formed-append : (p q : List ℕ) → WellFormed p → WellFormed q → WellFormed (p ++ q)
+formed-append [] q hp hq = hq
+formed-append (b ∷ p) q hp hq = formed-cons b (p ++ q) (formed-head b p hp) (formed-append p q (formed-tail b p hp) hq)
+
 -- A disc of a well-formed position put on any peg leaves the position well formed.
 pub formed-set : (p : List ℕ) (i b : ℕ) → WellFormed p → b < 3 → WellFormed (set p i b)
 formed-set [] i b h hb = formed-nil
@@ -69,13 +74,9 @@ formed-from : (p : List ℕ) (i : ℕ) → i < length p → wellFormed (drop i p
 unfolding wellFormed
 formed-from p i h = ap wellFormed (drop-cons p i 0 h)
 
--- A peg at i leaves the test to the bytes after it.
-pub formed-past : (p : List ℕ) (i : ℕ) → i < length p → peg p i < 3 → wellFormed (drop (suc i) p) ≡ wellFormed (drop i p)
-formed-past p i h small = rw (formed-from p i h, lt-ltb (peg p i) 3 small)
-
--- A byte at i that is no peg fails the test.
-pub formed-fails : (p : List ℕ) (i : ℕ) → i < length p → 3 ≤ peg p i → wellFormed (drop i p) ≡ false
-formed-fails p i h large = rw (formed-from p i h, le-ltb (peg p i) 3 large)
+-- A test so far, with that of byte i and of the bytes after it, is the test so far with that of the bytes from i on.
+pub formed-past : (a : Bool) (p : List ℕ) (i : ℕ) → i < length p → (a && ltb (peg p i) 3 && wellFormed (drop (suc i) p)) ≡ (a && wellFormed (drop i p))
+formed-past a p i h = rw (formed-from p i h) (and-assoc a (ltb (peg p i) 3) (wellFormed (drop (suc i) p)))
 
 -- Where no byte is left the test passes.
 pub formed-end : (p : List ℕ) (i : ℕ) → length p ≤ i → WellFormed (drop i p)

@@ -1,5 +1,8 @@
 // Positions: the limit on discs, the test of their bytes, and the faults of a position by itself, in document 01's order.
+ghost use mathlib.Core.List.{_++_};
 ghost use mathlib.Core.Path.{_≡_};
+ghost use Prim.Native.Nat.{_≤_};
+ghost use lib.ListN.{length, drop};
 ghost use Rattle.board.specs.Position.{wellFormed};
 ghost use Rattle.board.specs.Task.{positionVerdict};
 use crate::refusal::Refusal;
@@ -12,14 +15,25 @@ pub const LIMIT: usize = 60;
 pub fn only_pegs(bytes: &[u8]) -> bool
     ensures { λ r. ⌜ r ≡ wellFormed (now (bytes .entry)) ⌝ }
 {
+    let mut all = true;
     let mut i = 0;
     while i < bytes.len() {
-        if bytes[i] > 2 {
-            return false;
-        }
+        all = all & (bytes[i] < 3);
         i += 1;
     }
-    true
+    all
+}
+
+// Copies bytes to the start of a buffer.
+pub fn copy_first(from: &[u8], out: &mut [u8])
+    requires { ⌜ length (now from) ≤ length (now out) ⌝ }
+    ensures { λ _. ⌜ now (out .exit) ≡ now (from .entry) ++ drop (length (now (from .entry))) (now (out .entry)) ⌝ }
+{
+    let mut i = 0;
+    while i < from.len() {
+        out[i] = from[i];
+        i += 1;
+    }
 }
 
 // The first fault of a position.

@@ -19,4 +19,5 @@ pub mod Table
 pub mod Parts
 pub mod Sound
 pub mod Fits
+pub mod OnePass
 pub mod Largest

@@ -5,3 +5,4 @@ pub mod Tower
 pub mod Answer
 pub mod Reply
 pub mod Sound
+pub mod Together

@@ -8,8 +8,7 @@ ghost use Rattle.plan.specs.Sound.{Ends};
 use crate::answer::Lengths;
 use crate::answer::Plan;
 use crate::answer::Way;
-use crate::stack::gather_discs;
-use crate::tower;
+use crate::together::gather_together;
 
 // The largest disc whose pegs differ, or 0.
 pub fn largest_moving(start: &[u8], goal: &[u8]) -> usize
@@ -35,9 +34,24 @@ fn lengths(start: &[u8], goal: &[u8], k: usize) -> Lengths
     let a = start[k];
     let b = goal[k];
     let c = board::peg::third(a, b);
+    let mut from = [0; 60];
+    let mut to = [0; 60];
+    board::position::copy_first(start, &mut from);
+    board::position::copy_first(goal, &mut to);
+    let mut sums = [0; 2];
+    gather_together(
+        &from,
+        &to,
+        k,
+        c as u64,
+        c as u64,
+        b as u64,
+        a as u64,
+        &mut sums,
+    );
     Lengths {
-        direct: gather_discs(start, k, c) + 1 + gather_discs(goal, k, c),
-        detour: gather_discs(start, k, b) + (tower::length(k) + 2) + gather_discs(goal, k, a),
+        direct: sums[0] + 1,
+        detour: sums[1] + (1 << k) + 1,
     }
 }
 

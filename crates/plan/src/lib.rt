@@ -2,6 +2,7 @@
 pub mod answer;
 pub mod crossing;
 pub mod stack;
+pub mod together;
 pub mod tower;
 
 ghost use mathlib.Core.Path.{_≡_};

@@ -1,8 +1,7 @@
 // Place (document 01): any position of a shortest route, without walking it.
-ghost use mathlib.Core.List.{_++_};
 ghost use mathlib.Core.Path.{_≡_};
 ghost use Prim.Native.Nat.{_<_, _≤_};
-ghost use lib.ListN.{length, take, drop};
+ghost use lib.ListN.{length, take};
 ghost use Rattle.plan.specs.Plan.{planOf, routes, shortest};
 ghost use Rattle.plan.specs.Sound.{Ends};
 ghost use Rattle.route.specs.Answer.{placeVerdict, placeWrites};
@@ -28,18 +27,6 @@ pub fn route_pegs(start: &[u8], goal: &[u8], p: Plan, route: u64, index: u64) ->
     stage::stage_pegs(start, goal, c, c.stage(index))
 }
 
-// Copies bytes to the start of a buffer.
-fn copy_first(from: &[u8], out: &mut [u8])
-    requires { ⌜ length (now from) ≤ length (now out) ⌝ }
-    ensures { λ _. ⌜ now (out .exit) ≡ now (from .entry) ++ drop (length (now (from .entry))) (now (out .entry)) ⌝ }
-{
-    let mut i = 0;
-    while i < from.len() {
-        out[i] = from[i];
-        i += 1;
-    }
-}
-
 // Place: writes the position after so many moves of a shortest route into the first n bytes of the buffer. Refuses with the task
 // faults, 4, 5 and 6, and then writes nothing.
 pub fn place(task: &[u8], route: u64, index: u64, out: &mut [u8]) -> Verdict
@@ -60,7 +47,7 @@ pub fn place(task: &[u8], route: u64, index: u64, out: &mut [u8]) -> Verdict
                 return Verdict::Refused(Refusal::ShortBuffer);
             }
             let pegs = route_pegs(&task[..n], &task[n..], p, route, index);
-            copy_first(&pegs[..n], out);
+            board::position::copy_first(&pegs[..n], out);
             Verdict::Accepted
         }
     }

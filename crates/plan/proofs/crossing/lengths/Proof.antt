@@ -1,26 +1,66 @@
--- `plan::crossing::lengths` meets its contract: each gathering is asked for on a peg, each fits, and the sums are those of the rules.
+-- `plan::crossing::lengths` meets its contract: the copies gather as the positions do, the sums fit, and they are those of the rules.
 -- Assumes nothing.
-use Prim.Native.Nat.{ℕ, _+_, _<_, _^_}
-use mathlib.Core.Path.{_≡_}
+use Prim.Native.Nat.{ℕ, _+_, _*_, _^_, _%_, _≤_, _<_}
+use mathlib.Core.Path.{_≡_, _∙_, refl}
+use mathlib.Core.List.{List, [], _∷_, _++_}
+use native.Mathlib.Nat.{one-mul}
 use native.Mathlib.Omega.{arith}
+use lib.ListN.{length, drop, replicate}
+use lib.Pow.{pow-mono, shl-exact}
 use borrow.Author.Needs.{needs}
-use Rattle.board.specs.Position.{peg}
+use Rattle.board.specs.Peg.{third}
+use Rattle.board.specs.Position.{peg, WellFormed}
 use Rattle.board.specs.Task.{limit}
 use Rattle.board.proofs.Pegs.{third-peg}
-use Rattle.board.proofs.Formed.{formed-pegs}
+use Rattle.board.proofs.Formed.{formed-append, formed-drop, formed-pegs, formed-replicate}
 use Rattle.plan.specs.Gather.{gather}
 use Rattle.plan.specs.Plan.{direct, detour}
-use Rattle.plan.specs.Tower.{towerLength}
+use Rattle.plan.specs.Sound.{Ends}
+use Rattle.plan.specs.declared.answer.Lengths.{Lengths}
 use Rattle.plan.proofs.Sound.{start-gatherable, goal-gatherable}
-use Rattle.plan.proofs.Fits.{tower-more, tower-fits, gather-fits}
+use Rattle.plan.proofs.Fits.{gather-fits}
+use Rattle.plan.proofs.OnePass.{together-copied}
 use Rattle.plan.proofs.crossing.lengths.Statement.{statement}
 use Rattle.plan.proofs.crossing.lengths.Tie as tie
 
--- The two-move plan, with the shift of the smaller discs as the length of a tower.
-detour-tower :
-    (p q : ℕ → ℕ) (k : ℕ) → gather p k (q k) + (towerLength k + 2) + gather q k (p k) ≡ detour p q k
-unfolding detour
-detour-tower p q k = omega (arith, tower-more k)
+-- 1 shifted by k places is 2 ^ k: no bit is lost.
+shift-exact : (k : ℕ) → k ≤ limit → (1 * 2 ^ k) % 2 ^ 64 ≡ 2 ^ k
+shift-exact k h = shl-exact {a = 1} 1 k 64 (omega arith) (omega arith) ∙ one-mul (2 ^ k)
+
+-- The direct plan's sum of disc k + 1: the lengths of its two gathers.
+directSum : List ℕ → List ℕ → ℕ → ℕ
+directSum s t k = gather (peg s) k (third (peg s k) (peg t k)) + gather (peg t) k (third (peg s k) (peg t k))
+
+-- The detour's sum.
+detourSum : List ℕ → List ℕ → ℕ → ℕ
+detourSum s t k = gather (peg s) k (peg t k) + gather (peg t) k (peg s k)
+
+-- Two pairs of lengths are the same where both lengths are.
+same-lengths : {a b d e : ℕ} → a ≡ b → d ≡ e → _≡_ {A = Lengths} (record { direct = a; detour = d }) (record { direct = b; detour = e })
+same-lengths x y = cc
+
+module _ {s t : List ℕ} {k : ℕ} (ends : Ends s t) (h : k < length s) where
+  -- Two gathers together take fewer than 2 ^ 61 moves.
+  gathers-small : {i j : ℕ} → i < 3 → j < 3 → gather (peg s) k i + gather (peg t) k j < 2 ^ 61
+  gathers-small hi hj = omega (arith, gather-fits (start-gatherable ends h hi), gather-fits (goal-gatherable ends h hj))
+
+  -- So the direct plan's sum is below 2 ^ 61.
+  direct-small : directSum s t k < 2 ^ 61
+  unfolding directSum
+  direct-small = let c = third-peg _ _ (formed-pegs s (ends .start-formed) k) in gathers-small c c
+
+  -- So is the detour's.
+  detour-small : detourSum s t k < 2 ^ 61
+  unfolding detourSum
+  detour-small = gathers-small (formed-pegs t (ends .goal-formed) k) (formed-pegs s (ends .start-formed) k)
+
+-- A copy of a position, with zeros after it, is well formed.
+copy-formed : (p : List ℕ) → WellFormed p → WellFormed (p ++ drop (length p) (replicate limit 0))
+copy-formed p h = formed-append p _ h (formed-drop (length p) _ (formed-replicate limit 0 (omega arith)))
+
+-- Sums of 0 leave room for at most `limit` discs.
+room : (k : ℕ) → k ≤ limit → (0 + 2) * 2 ^ k ≤ 2 ^ 63
+room k h = omega (arith, pow-mono h)
 
 shared-slice-read-a : tie.Need-shared-slice-read-a
 shared-slice-read-a c = search needs
@@ -37,70 +77,100 @@ third-requires c κs =
 third-small : (c : tie.After-third) → c .third .result < 3
 third-small c = let pegs = third-requires (c .before) tt in rw (c .third .ensures) (third-peg _ _ (pegs .0))
 
-gather-discs-requires : tie.Need-gather-discs-requires
-gather-discs-requires c κs =
-    let pre = c .before .before .before .before .before .pre in start-gatherable (pre .0) (pre .1) (third-small c)
+slice-aggregate-copy-first : tie.Need-slice-aggregate-copy-first
+slice-aggregate-copy-first c = search needs
 
--- The start gathered on the third peg fits.
-start-fits : (c : tie.After-gather-discs) → c .gather-discs .result < 2 ^ limit
-start-fits c = rw (c .gather-discs .ensures) (gather-fits (gather-discs-requires (c .before) (c .gather-discs .lifetimes)))
+copy-first-requires : tie.Need-copy-first-requires
+copy-first-requires c κs = search needs
 
-add-t11 : tie.Need-add-t11
-add-t11 c = omega (arith, start-fits c)
+slice-aggregate-copy-first-2 : tie.Need-slice-aggregate-copy-first-2
+slice-aggregate-copy-first-2 c = search needs
 
-gather-discs-requires-2 : tie.Need-gather-discs-requires-2
-gather-discs-requires-2 c κs =
-    let pre = c .before .before .before .before .before .before .pre in
-    goal-gatherable (pre .0) (pre .1) (third-small (c .before))
+copy-first-requires-2 : tie.Need-copy-first-requires-2
+copy-first-requires-2 c κs = search needs
 
--- The goal gathered there fits.
-goal-fits : (c : tie.After-gather-discs2) → c .gather-discs2 .result < 2 ^ limit
-goal-fits c = rw (c .gather-discs2 .ensures) (gather-fits (gather-discs-requires-2 (c .before) (c .gather-discs2 .lifetimes)))
+cast-gather-together : tie.Need-cast-gather-together
+cast-gather-together c = search needs
 
-add-t13 : tie.Need-add-t13
-add-t13 c = omega (arith, start-fits (c .before), goal-fits c)
+cast-gather-together-2 : tie.Need-cast-gather-together-2
+cast-gather-together-2 c = search needs
 
-gather-discs-requires-3 : tie.Need-gather-discs-requires-3
-gather-discs-requires-3 c κs =
-    let pre = c .before .before .before .before .before .before .before .pre in
-    start-gatherable (pre .0) (pre .1) (formed-pegs _ (pre .0 .goal-formed) _)
+-- A peg fits.
+cast-gather-together-3 : tie.Need-cast-gather-together-3
+cast-gather-together-3 c =
+    let start = c .before .before .before .before .before .before .before .before .before .before .before .before .before in
+    omega (arith, formed-pegs _ (start .pre .0 .goal-formed) (start .args .k))
 
--- The start gathered on the goal's peg fits.
-start-fits-2 : (c : tie.After-gather-discs3) → c .gather-discs3 .result < 2 ^ limit
-start-fits-2 c =
-    rw (c .gather-discs3 .ensures) (gather-fits (gather-discs-requires-3 (c .before) (c .gather-discs3 .lifetimes)))
+cast-gather-together-4 : tie.Need-cast-gather-together-4
+cast-gather-together-4 c =
+    let start = c .before .before .before .before .before .before .before .before .before .before .before .before .before in
+    omega (arith, formed-pegs _ (start .pre .0 .start-formed) (start .args .k))
 
-length-requires : tie.Need-length-requires
-length-requires c κs = search needs
+gather-together-requires : tie.Need-gather-together-requires
+gather-together-requires c κs =
+    let start = c .before .before .before .before .before .before .before .before .before .before .before .before .before .before in
+    let ends = start .pre .0 in
+    let within : start .args .k ≤ limit = omega arith in
+    record {
+      within = within;
+      start-formed = rw (c .before .before .before .before .before .before .before .copy-first .ensures) (copy-formed _ (ends .start-formed));
+      goal-formed = rw (c .before .before .before .before .copy-first2 .ensures) (copy-formed _ (ends .goal-formed));
+      start-direct = third-small (c .before .before .before .before .before .before .before .before .before);
+      goal-direct = third-small (c .before .before .before .before .before .before .before .before .before);
+      start-detour = formed-pegs _ (ends .goal-formed) _;
+      goal-detour = formed-pegs _ (ends .start-formed) _;
+      both = refl;
+      direct-room = room _ within;
+      detour-room = room _ within;
+    }
 
--- The shift of the smaller discs fits.
-shift-fits : (c : tie.After-length) → c .length .result < 2 ^ limit
-shift-fits c = rw (c .length .ensures) (tower-fits _ (length-requires (c .before) tt))
+-- What the function was given.
+abbrev entry : tie.After-gather-together → tie.Start
+entry c = c .before .before .before .before .before .before .before .before .before .before .before .before .before .before .before
 
-add-t16 : tie.Need-add-t16
-add-t16 c = omega (arith, shift-fits c)
+-- The sums after the pass are those of both plans.
+sums-left : (c : tie.After-gather-together) → (
+    let args = entry c .args in
+    c .gather-together .last .1 .1 .1 .1 .1 .1 .1 .0
+    ≡ directSum (args .start .now) (args .goal .now) (args .k) ∷ detourSum (args .start .now) (args .goal .now) (args .k) ∷ []
+    )
+unfolding directSum detourSum
+sums-left c =
+    let args = entry c .args in
+    rw (
+      c .before .before .before .before .before .before .before .before .copy-first .ensures,
+      c .before .before .before .before .before .copy-first2 .ensures,
+      c .before .before .before .before .before .before .before .before .before .before .third .ensures,
+      together-copied (args .start .now) (args .goal .now) _ _ (args .k) _ _ _ _ (omega arith) (omega arith),
+    ) at (c .gather-together .ensures)
 
-add-t17 : tie.Need-add-t17
-add-t17 c = omega (arith, start-fits-2 (c .before), shift-fits c)
+array-read-t20 : tie.Need-array-read-t20
+array-read-t20 c = search needs
 
-gather-discs-requires-4 : tie.Need-gather-discs-requires-4
-gather-discs-requires-4 c κs =
-    let pre = c .before .before .before .before .before .before .before .before .before .pre in
-    goal-gatherable (pre .0) (pre .1) (formed-pegs _ (pre .0 .start-formed) _)
+add-t23 : tie.Need-add-t23
+add-t23 c = let pre = entry c .pre in rw (sums-left c) (omega (arith, direct-small (pre .0) (pre .1)))
 
--- The goal gathered on the start's peg fits.
-goal-fits-2 : (c : tie.After-gather-discs4) → c .gather-discs4 .result < 2 ^ limit
-goal-fits-2 c =
-    rw (c .gather-discs4 .ensures) (gather-fits (gather-discs-requires-4 (c .before) (c .gather-discs4 .lifetimes)))
+array-read-t22 : tie.Need-array-read-t22
+array-read-t22 c = search needs
 
-add-t19 : tie.Need-add-t19
-add-t19 c = omega (arith, start-fits-2 (c .before .before), shift-fits (c .before), goal-fits-2 c)
+shl-t29 : tie.Need-shl-t29
+shl-t29 c = search needs
 
+add-t31 : tie.Need-add-t31
+add-t31 c =
+    let pre = entry c .pre in
+    let within : entry c .args .k ≤ limit = omega arith in
+    rw (sums-left c, shift-exact) (omega (arith, detour-small (pre .0) (pre .1), pow-mono within))
+
+add-t30 : tie.Need-add-t30
+add-t30 c = omega (arith, add-t31 c)
+
+-- Both lengths are those of the rules.
 returns : tie.Need-returns
-unfolding direct
+unfolding directSum detourSum direct detour
 returns c =
-    let args = c .before .before .before .before .before .before .before .before .before .before .args in
-    cc (detour-tower (peg (args .start .now)) (peg (args .goal .now)) (args .k))
+    let within : entry c .args .k ≤ limit = omega arith in
+    rw (sums-left c, shift-exact) (same-lengths (omega arith) (omega arith))
 
 pub lengths-spec : {M : Type 1} → statement M
 lengths-spec =
@@ -109,14 +179,19 @@ lengths-spec =
     shared-slice-read-a
     shared-slice-read-b
     third-requires
-    gather-discs-requires
-    add-t11
-    gather-discs-requires-2
-    add-t13
-    gather-discs-requires-3
-    length-requires
-    add-t16
-    add-t17
-    gather-discs-requires-4
-    add-t19
+    slice-aggregate-copy-first
+    copy-first-requires
+    slice-aggregate-copy-first-2
+    copy-first-requires-2
+    cast-gather-together
+    cast-gather-together-2
+    cast-gather-together-3
+    cast-gather-together-4
+    gather-together-requires
+    array-read-t20
+    add-t23
+    array-read-t22
+    shl-t29
+    add-t30
+    add-t31
     returns)

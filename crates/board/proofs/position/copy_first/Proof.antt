@@ -1,4 +1,4 @@
--- `route::placing::copy_first` meets its contract. The loop's invariant: the buffer is the first i bytes to copy and then its own. The measure
+-- `board::position::copy_first` meets its contract. The loop's invariant: the buffer is the first i bytes to copy and then its own. The measure
 -- is how many are left to copy. Assumes nothing.
 use Prim.Native.Nat.{ℕ, suc, _-_, _≤_, _<_}
 use mathlib.Core.Path.{_≡_, refl}
@@ -7,8 +7,8 @@ use native.Mathlib.Numerals.{add-one}
 use native.Mathlib.Omega.{arith}
 use lib.ListN.{length, getD, set, take, drop, length-set}
 use lib.Seq.{take-length, take-suc, drop-cons, append-snoc, set-at, length-take-le}
-use Rattle.route.proofs.placing.copy_first.Statement.{statement}
-use Rattle.route.proofs.placing.copy_first.Tie as tie
+use Rattle.board.proofs.position.copy_first.Statement.{statement}
+use Rattle.board.proofs.position.copy_first.Tie as tie
 
 -- One byte more is copied by a store at i.
 copied-more : (from out : List ℕ) (i : ℕ) → i < length from → i < length out
