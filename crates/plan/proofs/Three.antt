@@ -6,16 +6,7 @@ use native.Mathlib.Decide.{ℕ-discrete}
 use native.Mathlib.Omega.{arith}
 use Rattle.board.specs.Peg.{third}
 use Rattle.board.proofs.Pegs.{third-else}
-
--- i, j and k are the pegs 0, 1 and 2 in some order.
-pub record Three (i j k : ℕ) : Type 0 where
-  pub first : i < 3
-  pub second : j < 3
-  pub third : k < 3
-  pub first-second : i ≢ j
-  pub first-third : i ≢ k
-  pub second-third : j ≢ k
-  pub sum : i + j + k ≡ 3
+use Rattle.plan.specs.Three.{Three}
 
 -- Two different pegs and their third.
 pub three : (i j : ℕ) → i < 3 → j < 3 → i ≢ j → Three i j (third i j)

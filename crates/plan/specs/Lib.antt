@@ -6,3 +6,4 @@ pub mod Answer
 pub mod Reply
 pub mod Sound
 pub mod Together
+pub mod Three

@@ -11,17 +11,14 @@ use lib.Dec.{eqb}
 use Rattle.board.specs.Peg.{third}
 use Rattle.board.proofs.Pegs.{third-peg, third-same}
 use Rattle.plan.specs.Gather.{gather}
-use Rattle.plan.proofs.Three.{Three, three, three-third, three-swap, three-turn, three-flip}
+use Rattle.plan.specs.Three.{Three}
+use Rattle.plan.proofs.Three.{three, three-third, three-swap, three-turn, three-flip}
 use Rattle.plan.proofs.Gathering.{Pegs, Tower}
 use Rattle.plan.proofs.Step.{Step, Crossing, put, put-same, put-other, step-less, step-largest, step-crossing}
+use Rattle.route.specs.Aim.{aim}
 use Rattle.route.specs.Route.{carry, gathering}
 use Rattle.route.proofs.Walk.{step-grow}
 use Rattle.route.proofs.Lowering.{crossing-target, lower-first}
-
--- The target of disc 1 when discs 1 to k + 1 are gathered on peg j.
-unfoldable pub aim : (ℕ → ℕ) → ℕ → ℕ → ℕ
-aim u zero j = j
-aim u (suc k) j = aim u k (third j (u (suc k)))
 
 -- The target is a peg.
 pub aim-peg : (u : ℕ → ℕ) (k j : ℕ) → j < 3 → aim u k j < 3

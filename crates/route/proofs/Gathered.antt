@@ -9,7 +9,8 @@ use borrow.Author.Tests.{eq-eqb, ne-eqb}
 use lib.ListN.{length, length-append}
 use Rattle.board.specs.Peg.{third}
 use Rattle.plan.specs.Gather.{gather}
-use Rattle.plan.proofs.Three.{Three, three-third, three-swap, three-turn, three-flip, compare-pegs}
+use Rattle.plan.specs.Three.{Three}
+use Rattle.plan.proofs.Three.{three-third, three-swap, three-turn, three-flip, compare-pegs}
 use Rattle.plan.proofs.Gathering.{Pegs, Tower, gather-home, gather-away, gather-shift, gather-tower, gathered-tower}
 use Rattle.plan.proofs.Step.{Step, put, put-same, put-other, put-pegs, step-more, step-largest}
 use Rattle.route.specs.Route.{carry, gathering}

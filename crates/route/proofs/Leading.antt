@@ -6,7 +6,7 @@ use lib.ListN.{length}
 use Rattle.board.specs.Position.{peg, WellFormed}
 use Rattle.board.specs.Move.{Move, Legal, Leads, done, next, moved}
 use Rattle.board.proofs.Top.{length-moved, top-on, moved-disc}
-use Rattle.plan.proofs.Three.{Three}
+use Rattle.plan.specs.Three.{Three}
 use Rattle.plan.proofs.Step.{Step}
 use Rattle.plan.proofs.Moves.{formed-moved, legal-step, stepMove, step-legal, step-moved}
 use Rattle.route.specs.Route.{plain, after}

@@ -8,7 +8,8 @@ use native.Mathlib.Omega.{arith}
 use lib.ListN.{length}
 use Rattle.board.specs.Peg.{third}
 use Rattle.plan.specs.Gather.{gather}
-use Rattle.plan.proofs.Three.{Three, three-swap, three-turn, three-flip, compare-pegs, each-peg}
+use Rattle.plan.specs.Three.{Three}
+use Rattle.plan.proofs.Three.{three-swap, three-turn, three-flip, compare-pegs, each-peg}
 use Rattle.plan.proofs.Gathering.{Pegs, Tower, gather-home, gather-away, gather-shift, gather-tower}
 use Rattle.plan.proofs.Step.{Step, Crossing, step-back, step-less, step-crossing, step-gather}
 use Rattle.route.specs.Route.{carry, gathering, backwards, spreading}

@@ -9,7 +9,8 @@ use lib.ListN.{length, take, drop, length-drop}
 use lib.Seq.{drop-append-le, drop-append-add, drop-nil}
 use Rattle.board.specs.Peg.{third}
 use Rattle.plan.specs.Gather.{gather}
-use Rattle.plan.proofs.Three.{Three, three, three-swap, three-turn, three-flip}
+use Rattle.plan.specs.Three.{Three}
+use Rattle.plan.proofs.Three.{three, three-swap, three-turn, three-flip}
 use Rattle.plan.proofs.Gathering.{Pegs, gather-home, gather-away, gather-shift}
 use Rattle.route.specs.Along.{along}
 use Rattle.route.specs.Route.{carry, gathering}

@@ -7,7 +7,8 @@ use native.Mathlib.Omega.{arith}
 use lib.ListN.{length, length-append}
 use Rattle.board.specs.Peg.{third}
 use Rattle.plan.specs.Plan.{direct, detour}
-use Rattle.plan.proofs.Three.{Three, three-third, three-swap, three-turn, three-flip}
+use Rattle.plan.specs.Three.{Three}
+use Rattle.plan.proofs.Three.{three-third, three-swap, three-turn, three-flip}
 use Rattle.plan.proofs.Gathering.{Pegs, Tower, gather-shift}
 use Rattle.plan.proofs.Step.{Step, put, put-same, put-other, put-pegs}
 use Rattle.route.specs.Route.{carry, gathering, spreading, directRoute, detourRoute}

@@ -11,7 +11,8 @@ use Rattle.board.specs.Peg.{third}
 use Rattle.board.proofs.Pegs.{third-peg}
 use Rattle.plan.specs.Gather.{gather}
 use Rattle.plan.specs.Plan.{largest}
-use Rattle.plan.proofs.Three.{Three, three, three-third, three-swap, three-turn, three-flip}
+use Rattle.plan.specs.Three.{Three}
+use Rattle.plan.proofs.Three.{three, three-third, three-swap, three-turn, three-flip}
 use Rattle.plan.proofs.Gathering.{Pegs, gather-home, gather-away, gather-shift}
 use Rattle.plan.proofs.Largest.{largest-stays, largest-moves}
 use Rattle.route.specs.Along.{along}

@@ -2,7 +2,8 @@
 use Prim.Native.Nat.{ℕ, zero, suc}
 use mathlib.Core.Path.{_≡_, _∙_, ap, refl}
 use mathlib.Core.List.{List, [], _∷_, _++_, append-assoc}
-use Rattle.plan.proofs.Three.{Three, three-swap, three-turn, three-flip}
+use Rattle.plan.specs.Three.{Three}
+use Rattle.plan.proofs.Three.{three-swap, three-turn, three-flip}
 use Rattle.route.specs.Route.{carry, turned, gathering, backwards, spreading}
 use Rattle.route.specs.declared.answer.DiscMove.{DiscMove}
 use Rattle.route.proofs.Gathered.{gathering-home, gathering-away}

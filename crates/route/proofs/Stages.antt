@@ -13,7 +13,8 @@ use Rattle.board.specs.Peg.{third}
 use Rattle.plan.specs.Gather.{gather}
 use Rattle.plan.specs.Plan.{direct, detour}
 use Rattle.plan.specs.Tower.{towerLength}
-use Rattle.plan.proofs.Three.{Three, three-swap}
+use Rattle.plan.specs.Three.{Three}
+use Rattle.plan.proofs.Three.{three-swap}
 use Rattle.plan.proofs.Gathering.{Pegs, gather-shift, gather-cong}
 use Rattle.route.specs.Along.{along}
 use Rattle.route.specs.Route.{carry, gathering, spreading, moveAt, directRoute, detourRoute}

@@ -9,7 +9,8 @@ use lib.ListN.{length}
 use Rattle.board.specs.Peg.{third}
 use Rattle.plan.specs.Gather.{gather}
 use Rattle.plan.specs.Plan.{direct, detour, largest}
-use Rattle.plan.proofs.Three.{Three, three, three-third, three-swap, three-turn, three-flip, each-peg}
+use Rattle.plan.specs.Three.{Three}
+use Rattle.plan.proofs.Three.{three, three-third, three-swap, three-turn, three-flip, each-peg}
 use Rattle.plan.proofs.Gathering.{Pegs, gather-shift, gather-tower, gather-bound}
 use Rattle.plan.proofs.Step.{Step, Crossing, step-back, step-less, step-crossing, step-gather}
 use Rattle.plan.proofs.Distance.{dist, dist-none, dist-home, dist-away, dist-tower, step-dist}

@@ -4,3 +4,4 @@ pub mod Answer
 pub mod Reply
 pub mod Along
 pub mod Stage
+pub mod Aim

@@ -17,7 +17,8 @@ use Rattle.board.proofs.Formed.{formed-pegs}
 use Rattle.plan.specs.Plan.{direct, detour, largest, lengthsOf, planOf, shortest}
 use Rattle.plan.specs.Sound.{Ends}
 use Rattle.plan.specs.Tower.{towerLength}
-use Rattle.plan.proofs.Three.{Three, three, three-third, three-swap, three-turn, three-flip}
+use Rattle.plan.specs.Three.{Three}
+use Rattle.plan.proofs.Three.{three, three-third, three-swap, three-turn, three-flip}
 use Rattle.plan.proofs.Gathering.{Pegs, gather-shift}
 use Rattle.plan.proofs.Largest.{largest-stays}
 use Rattle.route.specs.Along.{along}

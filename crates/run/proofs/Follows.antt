@@ -16,7 +16,8 @@ use Rattle.board.proofs.Formed.{formed-pegs}
 use Rattle.board.proofs.Top.{length-moved}
 use Rattle.plan.specs.Gather.{gather}
 use Rattle.plan.specs.Tower.{towerLength}
-use Rattle.plan.proofs.Three.{Three, three, three-third, three-turn, compare-pegs, each-peg}
+use Rattle.plan.specs.Three.{Three}
+use Rattle.plan.proofs.Three.{three, three-third, three-turn, compare-pegs, each-peg}
 use Rattle.plan.proofs.Gathering.{Pegs, Tower, gather-shift, gathered-tower}
 use Rattle.plan.proofs.Step.{Step, put, put-same, put-other, step-largest}
 use Rattle.plan.proofs.Moves.{formed-moved, stepMove, step-top, step-legal, step-moved}
@@ -26,7 +27,8 @@ use Rattle.route.proofs.Gathered.{gathering-cong, gathering-done, gathering-fir
 use Rattle.route.proofs.Spreading.{spreading-none, spreading-home, spreading-away}
 use Rattle.route.proofs.Walk.{step-grow}
 use Rattle.route.proofs.Lowering.{lower-first}
-use Rattle.route.proofs.Aim.{aim, aim-peg, aim-parity, aim-less, aim-other, aim-tower, aim-after, small-step}
+use Rattle.route.specs.Aim.{aim}
+use Rattle.route.proofs.Aim.{aim-peg, aim-parity, aim-less, aim-other, aim-tower, aim-after, small-step}
 use Rattle.run.specs.Pegs.{Holds, shifted}
 use Rattle.run.specs.Ready.{aside, legRest, legMove, legMoves, Ready}
 use Rattle.run.specs.Stepper.{topOf, second, last, smallTurn, otherFrom, otherTo, otherTurn, spreadLeg, nextLeg, towerAim, legTurn, Stepped, made, legStep, gatherStep, stepOf}

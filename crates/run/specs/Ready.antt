@@ -7,10 +7,10 @@ use lib.ListN.{length}
 use Rattle.board.specs.Peg.{third}
 use Rattle.board.specs.Position.{peg, WellFormed}
 use Rattle.plan.specs.Gather.{gather}
-use Rattle.plan.proofs.Three.{Three}
+use Rattle.plan.specs.Three.{Three}
 use Rattle.route.specs.Route.{carry, gathering, spreading}
 use Rattle.route.specs.declared.answer.DiscMove.{DiscMove}
-use Rattle.route.proofs.Aim.{aim}
+use Rattle.route.specs.Aim.{aim}
 use Rattle.run.specs.Pegs.{Holds}
 use Rattle.run.specs.declared.stepper.Leg.{Leg}
 use Rattle.run.specs.declared.stepper.Stepper.{Stepper}

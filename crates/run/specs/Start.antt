@@ -9,7 +9,7 @@ use Rattle.plan.specs.Plan.{largest}
 use Rattle.route.specs.declared.course.Course.{Course}
 use Rattle.route.specs.declared.course.Stage.{Stage}
 use Rattle.route.specs.declared.course.Stage.the-variants.{Gathering, Shifting, Spreading}
-use Rattle.route.proofs.Aim.{aim}
+use Rattle.route.specs.Aim.{aim}
 use Rattle.run.specs.Pegs.{Holds}
 use Rattle.run.specs.Ready.{aside}
 use Rattle.run.specs.declared.stepper.Leg.{Leg}

@@ -6,7 +6,7 @@ ghost use Rattle.board.specs.Position.{peg, WellFormed};
 ghost use Rattle.board.specs.Task.{limit};
 ghost use Rattle.plan.specs.Plan.{planOf, routes, shortest};
 ghost use Rattle.plan.specs.Sound.{Ends};
-ghost use Rattle.route.proofs.Aim.{aim};
+ghost use Rattle.route.specs.Aim.{aim};
 ghost use Rattle.route.specs.Route.{routeOf, after};
 ghost use Rattle.run.specs.Ready.{Ready};
 ghost use Rattle.run.specs.Start.{startLeg, Spreads, Started};

@@ -15,7 +15,6 @@
 //   located  the triples of a start, a goal and a position q for which Locate answers as the distances say: where those by way of q add up
 //            to that of the goal, the distance of q as the index and the lowest route on which Place has q there, and else Off
 //   wrong    the comparisons that fail, which lengths, counts, routes and located leave out
-// The field located is of at most 5 discs, and 0 for 6.
 mod locating;
 mod pairs;
 mod position;

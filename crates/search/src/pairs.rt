@@ -10,9 +10,6 @@ use crate::tally::Tally;
 use crate::walking::right_routes;
 use plan::answer::Planned;
 
-// The most discs of which every position is located on every task: with 6 the program runs for minutes.
-const LOCATED: usize = 5;
-
 // Plan's length of a task, or MANY where it refuses.
 fn plan_length(task: &[u8]) -> u64 {
     match plan::plan(task) {
@@ -52,9 +49,6 @@ fn with_task(
     );
     let routes = right_routes(task, n, start, goal, distance, count);
     let walked = planned.with_routes(distance, count, routes);
-    if LOCATED < n {
-        return walked;
-    }
     let right = right_positions(links, task, n, size, goal, near, distance);
     walked.with_positions(size as u64, right)
 }

@@ -1,6 +1,6 @@
 -- What is answered to the bytes of an input, check by check.
-use Prim.Native.Nat.{ℕ, suc, _+_, _-_, _/_, _≤_}
-use mathlib.Core.Path.{_≡_, _∙_, sym, refl}
+use Prim.Native.Nat.{ℕ, suc, _-_, _≤_}
+use mathlib.Core.Path.{_≡_, refl}
 use mathlib.Core.Bool.{Bool, true, false, cond, not, and-eq-true-iff}
 use mathlib.Core.List.{List, [], _∷_, _++_}
 use mathlib.Core.Logic.{_≢_}

@@ -1,12 +1,12 @@
 -- What Run writes of a whole route, put with spaces, is the route's text.
-use Prim.Native.Nat.{ℕ, _*_, _-_, _/_, _≤_, _<_, min}
+use Prim.Native.Nat.{ℕ, _*_, _≤_, _<_}
 use mathlib.Core.Path.{_≡_, _∙_, sym, refl}
 use mathlib.Core.Bool.{and-false}
 use mathlib.Core.List.{List, [], _∷_, _++_}
 use mathlib.Core.Logic.{_⊎_, inl, inr}
 use native.Mathlib.Omega.{arith}
 use borrow.Author.Tests.{lt-ltb, le-ltb}
-use lib.ListN.{length, take, drop}
+use lib.ListN.{length, take}
 use lib.Seq.{take-at, take-all}
 use Rattle.board.specs.Task.{start, goal, taskVerdict}
 use Rattle.board.specs.declared.refusal.Verdict.the-variants.{Accepted}

@@ -30,7 +30,7 @@ pub fn put_decimal(page: &mut Page, at: usize, n: u64) -> usize
     if 10 <= n {
         last = put_decimal(page, at, n / 10);
     }
-    page[last] = 48 + (n % 10) as u8;
+    page[last] = b'0' + (n % 10) as u8;
     last + 1
 }
 

@@ -12,7 +12,7 @@ ghost use Rattle.text.specs.declared.read.Next.the-variants.{Nothing};
 // The most bytes of a text.
 pub const MOST: usize = 512;
 
-const NEWLINE: u8 = 10;
+const NEWLINE: u8 = b'\n';
 
 // What may come next in a text.
 pub enum Next {
@@ -25,11 +25,11 @@ pub enum Next {
     Nothing,
 }
 
-// Whether a byte is a digit.
+// Whether a byte is a digit: it lies between the bytes before 0 and after 9.
 fn is_digit(byte: u8) -> bool
     ensures { λ r. ⌜ r ≡ isDigit byte ⌝ }
 {
-    (47 < byte) & (byte < 58)
+    (b'/' < byte) & (byte < b':')
 }
 
 // What comes next where a test passes, else nothing.
@@ -45,18 +45,18 @@ impl Next {
         ensures { λ r. ⌜ r ≡ follow self byte ⌝ }
     {
         match self {
-            Next::Bracket => only_if(byte == 91, Next::DigitOrEnd),
-            Next::DigitOrEnd => if byte == 93 {
+            Next::Bracket => only_if(byte == b'[', Next::DigitOrEnd),
+            Next::DigitOrEnd => if byte == b']' {
                 Next::Newline
             } else {
                 only_if(is_digit(byte), Next::CommaOrEnd)
             },
-            Next::CommaOrEnd => if byte == 44 {
+            Next::CommaOrEnd => if byte == b',' {
                 Next::Space
             } else {
-                only_if(byte == 93, Next::Newline)
+                only_if(byte == b']', Next::Newline)
             },
-            Next::Space => only_if(byte == 32, Next::Digit),
+            Next::Space => only_if(byte == b' ', Next::Digit),
             Next::Digit => only_if(is_digit(byte), Next::CommaOrEnd),
             Next::Newline => only_if(byte == NEWLINE, Next::Bracket),
             Next::Nothing => Next::Nothing,
@@ -127,7 +127,7 @@ fn put_digits(bytes: &[u8], task: &mut [u8; 512], at: usize) -> usize
     while i < bytes.len() {
         let byte = bytes[i];
         if is_digit(byte) {
-            task[used] = byte - 48;
+            task[used] = byte - b'0';
             used += 1;
         }
         i += 1;

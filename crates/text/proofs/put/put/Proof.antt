@@ -1,7 +1,7 @@
 -- `text::put::put` meets its contract. The loop's invariant: putting the bytes from `i` on gives what putting all of them gives. The measure is
 -- what is left of the length. Assumes nothing.
 use Prim.Native.Nat.{_+_, _-_, _≤_}
-use mathlib.Core.Path.{_≡_, refl}
+use mathlib.Core.Path.{_≡_}
 use native.Mathlib.Nat.{add-zero}
 use native.Mathlib.Omega.{arith}
 use lib.ListN.{length, drop, drop-of-length-le}

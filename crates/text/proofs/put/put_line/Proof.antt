@@ -1,10 +1,6 @@
 -- `text::put::put_line` meets its contract: the word, the number and the line's end are put one after another. Assumes nothing.
-use Prim.Native.Nat.{_≤_}
-use mathlib.Core.List.{[], _∷_, _++_}
 use native.Mathlib.Omega.{arith}
 use borrow.Author.Needs.{needs}
-use lib.ListN.{length, length-append}
-use Rattle.text.specs.Decimal.{decimal}
 use Rattle.text.proofs.Numbers.{decimal-fits}
 use Rattle.text.proofs.Page.{puts-then}
 use Rattle.text.proofs.put.put_line.Statement.{statement}

@@ -1,7 +1,7 @@
 -- `text::read::line_end` meets its contract. The loop's invariant: the first line ends where it ends in the bytes from `i` on. The measure
 -- is what is left of the length. Assumes nothing.
 use Prim.Native.Nat.{_+_, _-_, _≤_}
-use mathlib.Core.Path.{_≡_, refl}
+use mathlib.Core.Path.{_≡_}
 use native.Mathlib.Nat.{zero-add}
 use native.Mathlib.Numerals.{add-one}
 use native.Mathlib.Omega.{arith}
