@@ -5,3 +5,4 @@ pub mod Page
 pub mod Numbers
 pub mod Runs
 pub mod Answers
+pub mod InFull

@@ -56,6 +56,7 @@ detourText (Direct l) = decimal (l .detour)
 detourText (Detour l) = decimal (l .detour)
 detourText (Tie l) = decimal (l .detour)
 
+-- Their lines.
 abbrev pub lengthLines : Way → List ℕ
 lengthLines w = line directWord (directText w) ++ line detourWord (detourText w)
 
@@ -68,10 +69,11 @@ movesText (m ∷ ms) = space ∷ letter (m .from) ∷ letter (m .to) ∷ movesTe
 abbrev pub mostMoves : ℕ
 mostMoves = 1000
 
--- A route's number and its moves, or the word long; one of no moves has its number only.
+-- A route's moves, or the word long where there are more; nothing for one of no moves.
 unfoldable pub routeText : List DiscMove → List ℕ
 routeText ms = cond (ltb mostMoves (length ms)) longWord (movesText ms)
 
+-- The line of a route: its number, and that.
 abbrev pub routeLine : ℕ → List DiscMove → List ℕ
 routeLine k ms = line (decimal k) (routeText ms)
 
