@@ -52,16 +52,24 @@ static double time_shortest(shortest_fn *f, size_t n)
     return (seconds() - begun) * 1e9 / TASKS;
 }
 
+/* A line of the table: both medians and their ratio. */
+static void row(const char *label, double *ours, double *theirs, const char *unit)
+{
+    double a = median(ours), b = median(theirs);
+    printf("%-28s %9.1f %9.1f %7.2f  %s\n", label, a, b, a / b, unit);
+}
+
 static void bench_shortest(size_t n)
 {
+    char label[64];
     double ours[ROUNDS], theirs[ROUNDS];
     make_tasks(n);
     for (int r = 0; r < ROUNDS; r++) {
         ours[r] = time_shortest(tower_shortest, n);
         theirs[r] = time_shortest(hinz_shortest, n);
     }
-    double a = median(ours), b = median(theirs);
-    printf("shortest, %2zu random discs       %8.1f ns a call   %12.1f ns a call   %5.2f\n", n, a, b, a / b);
+    snprintf(label, sizeof label, "shortest, %zu discs", n);
+    row(label, ours, theirs, "ns a call");
 }
 
 /* Million moves a second, filling a buffer from random indexes of random tasks of 60 discs. */
@@ -76,7 +84,7 @@ static double time_run(run_fn *f, const uint64_t *first, uint8_t *out, size_t by
     return (double)moves / taken * 1e-6;
 }
 
-static void bench_run(const char *size, size_t bytes, uint8_t *out, const char *name, run_fn *other)
+static void bench_run(const char *label, size_t bytes, uint8_t *out, run_fn *other)
 {
     static uint64_t first[TASKS];
     double ours[ROUNDS], theirs[ROUNDS];
@@ -87,8 +95,7 @@ static void bench_run(const char *size, size_t bytes, uint8_t *out, const char *
         ours[r] = time_run(tower_run, first, out, bytes);
         theirs[r] = time_run(other, first, out, bytes);
     }
-    double a = median(ours), b = median(theirs);
-    printf("run into %s, %s   %6.1f M moves/s   %10.1f M moves/s   %5.2f\n", size, name, a, b, a / b);
+    row(label, ours, theirs, "million moves a second");
 }
 
 int main(void)
@@ -96,15 +103,15 @@ int main(void)
     uint8_t *out = malloc(4 << 20);
     if (!out)
         return 2;
-    printf("%d alternating rounds, medians; %d random tasks a round for shortest; %d MiB a round for run, of 60 discs\n", ROUNDS, TASKS, RUN_BYTES >> 20);
-    printf("                                   library              tests/hinz.c         ratio\n");
+    printf("%d alternating rounds, medians. A round: %d random tasks for shortest; %d MiB for run, from random indexes, 60 discs.\n", ROUNDS, TASKS, RUN_BYTES >> 20);
+    printf("%-28s %9s %9s %7s\n", "", "library", "hinz.c", "ratio");
     bench_shortest(10);
     bench_shortest(30);
     bench_shortest(60);
-    bench_run("64 KiB", 64 << 10, out, "stacks  ", hinz_run_stacks);
-    bench_run(" 4 MiB", 4 << 20, out, "stacks  ", hinz_run_stacks);
-    bench_run("64 KiB", 64 << 10, out, "counting", hinz_run);
-    bench_run(" 4 MiB", 4 << 20, out, "counting", hinz_run);
+    bench_run("run, 64 KiB, by stacks", 64 << 10, out, hinz_run_stacks);
+    bench_run("run, 4 MiB, by stacks", 4 << 20, out, hinz_run_stacks);
+    bench_run("run, 64 KiB, by counting", 64 << 10, out, hinz_run);
+    bench_run("run, 4 MiB, by counting", 4 << 20, out, hinz_run);
     free(out);
     return sink == 0;
 }
