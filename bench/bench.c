@@ -9,7 +9,7 @@
 #include "random.h"
 #include "towers.h"
 
-enum { ROUNDS = 21, TASKS = 4096, RUN_BYTES = 8 << 20 };
+enum { ROUNDS = 101, TASKS = 4096, RUN_BYTES = 8 << 20 };
 
 typedef uint64_t shortest_fn(const uint8_t *task, size_t len);
 typedef uint64_t run_fn(const uint8_t *task, size_t len, uint64_t route, uint64_t first, uint8_t *out, size_t out_len);

@@ -22,7 +22,7 @@ stepsFrom-next s q zero = refl
 stepsFrom-next s q (suc i) = ap (λ (t : Stepper). stepOf t q .stepper) (stepsFrom-next s q i)
 
 -- One move more has two letters more, at the end.
-letters-more : (s : Stepper) (q : ℕ → ℕ) (i : ℕ) →
+pub letters-more : (s : Stepper) (q : ℕ → ℕ) (i : ℕ) →
     let m = stepOf (stepsFrom s q i) q in
     stepLetters s q (suc i) ≡ stepLetters s q i ++ (letter (m .from) ∷ letter (m .to) ∷ [])
 unfolding stepLetters stepsFrom
@@ -36,7 +36,7 @@ letters-length s q zero = refl
 letters-length s q (suc i) = omega (arith, letters-length (stepOf s q .stepper) q i)
 
 -- What is stored at the end of what is written is written too.
-stored : (xs vs o : List ℕ) (n : ℕ) → length xs ≡ n → n + length vs ≤ length o
+pub stored : (xs vs o : List ℕ) (n : ℕ) → length xs ≡ n → n + length vs ≤ length o
     → sets (xs ++ drop n o) n vs ≡ (xs ++ vs) ++ drop (n + length vs) o
 stored xs vs o n e h =
     let rest : drop (n + length vs) (xs ++ drop n o) ≡ drop (n + length vs) o =

@@ -2,6 +2,7 @@
 pub mod Held
 pub mod Steps
 pub mod Letters
+pub mod Gathers
 pub mod Follows
 pub mod Runs
 pub mod Ahead

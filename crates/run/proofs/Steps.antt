@@ -111,12 +111,6 @@ module _ (s : Stepper) (g : List ℕ) (may : Safe s g) where
       let is = step-leg s (peg g) h in
       (record { disc = may .leg-disc h; from = rw is at (may .from); to = rw is at (may .to) }, rw is at (may .carries))
 
-  -- Else the gathering's move is to a peg, from one that has a disc to carry.
-  pub safe-gather : s .turn .left ≢ 0 →
-      let t = gatherTurn (s .pegs .top) (s .turn) in
-      (t .to < 3) × Carries (s .pegs .top) (t .from)
-  safe-gather h = let is = step-gather s (peg g) h in (rw is at (may .to), rw is at (may .carries))
-
 -- The stepper with the arrays t and b.
 abbrev pub standing : List ℕ → List ℕ → Turn → Leg → Stepper
 standing t b u l = record { pegs = arrays t b; turn = u; leg = l }
@@ -129,7 +123,3 @@ module _ (s : Stepper) (q : ℕ → ℕ) (r : Step) {t b : List ℕ} (held : arr
   -- The leg's own move, made in the arrays, is the stepper's next.
   pub leg-made : {l : Leg} → s .turn .left ≡ 0 → l ≡ nextLeg (s .leg) q → r ≡ legTurn (s .turn) (s .leg) l → stepped r t b l ≡ stepOf s q
   leg-made none next is = rw (step-leg s q none, ← next, ← is, held)
-
-  -- And so is a move of the gathering.
-  pub gather-made : s .turn .left ≢ 0 → r ≡ gatherTurn (s .pegs .top) (s .turn) → stepped r t b (s .leg) ≡ stepOf s q
-  gather-made some is = rw (step-gather s q some, ← is, held)

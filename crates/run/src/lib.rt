@@ -50,17 +50,10 @@ fn run_from(start: &[u8], goal: &[u8], p: Plan, route: u64, first: u64, out: &mu
     ensures { λ r. ⌜ r ≡ min (shortest p - first) (length (now (out .entry)) / 2) ⌝ }
     ensures { λ r. ⌜ now (out .exit) ≡ written Accepted (letters (take r (drop first (routeOf (now (start .entry)) (now (goal .entry)) route)))) (now (out .entry)) ⌝ }
 {
-    let count = lesser(p.shortest() - first, out.len() / 2);
+    let count = write::lesser(p.shortest() - first, out.len() / 2);
     if 0 < count {
         let stepper = start::start_at(start, goal, p, route, first);
         write::write_moves(stepper, goal, count, out);
     }
     count
-}
-
-// The lesser of two numbers.
-fn lesser(a: u64, b: usize) -> usize
-    ensures { λ r. ⌜ r ≡ min a b ⌝ }
-{
-    if a < b as u64 { a as usize } else { b }
 }

@@ -1,19 +1,21 @@
 -- `run::write::write_moves` meets its contract. The loop's invariant: `out` has i moves and then what it had, and the arrays, the turn and
 -- the leg are those of the stepper after them. The measure is what is left of `count`. Assumes nothing.
-use Prim.Native.Nat.{_-_, _*_, _≤_, _<_}
+use Prim.Native.Nat.{suc, _+_, _-_, _*_, _^_, _≤_, _<_}
 use mathlib.Core.List.{_++_}
-use mathlib.Core.Logic.{⊎-elim}
 use mathlib.Core.Path.{_≡_, ap, refl}
 use native.Mathlib.Numerals.{add-one}
 use native.Mathlib.Omega.{arith}
+use borrow.Author.Needs.{needs}
 use lib.ListN.{length, drop, length-set}
+use lib.Seq.{length-sets}
 use Rattle.board.specs.Position.{peg}
 use Rattle.board.proofs.Formed.{formed-pegs}
-use Rattle.run.specs.Stepper.{Stepped, stepOf, Safe}
+use Rattle.run.specs.Stepper.{legTurn, Stepped, Safe}
 use Rattle.run.specs.Written.{stepsFrom, stepLetters}
 use Rattle.run.specs.declared.stepper.Stepper.{Stepper}
+use Rattle.run.proofs.Gathers.{gathers-safe, gathered-steps, gathered-letters}
 use Rattle.run.proofs.Letters.{begin, go}
-use Rattle.run.proofs.Steps.{LegWithin, next-within, safe-leg, safe-gather, standing, stepped, leg-made, gather-made}
+use Rattle.run.proofs.Steps.{LegWithin, next-within, safe-leg, standing, leg-made}
 use Rattle.run.proofs.write.write_moves.Statement.{statement}
 use Rattle.run.proofs.write.write_moves.Tie as tie
 
@@ -60,68 +62,103 @@ leg-turn-requires c κs =
     let next = within at in
     ((now .0 .from, now .0 .to, now .1), (next .from, next .to, omega (arith, next .disc, may .within)))
 
-gather-turn-requires : tie.Need-gather-turn-requires Inv-loop μ-loop
-gather-turn-requires c κs =
-    let at = c .before .before in
-    let may = safe (at .before .before) in
-    let now = safe-gather _ _ may (at .if1 .left) in
-    ((omega (arith, at .if1 .left), may .small, now .0), (now .1, may .on-top))
-
--- What is made is the stepper's next move.
-made-next : (c : tie.Joined1 Inv-loop μ-loop) →
-    let at = c .before .before .before in
-    stepped (c .if1 .step) (c .if1 .top) (c .if1 .beneath) (c .if1 .leg) ≡ stepOf (current at) (peg (start at .args .goal .now))
-made-next c =
-    ⊎-elim
-    (λ w. rw (w .5, w .6, w .7, w .8) (leg-made (current (c .before .before .before)) _ _ (w .4 .ensures .1) (w .0 .taken) (w .1 .ensures) (w .4 .ensures .0)))
-    (λ w. rw (w .4, w .5, w .6, w .7) (gather-made (current (c .before .before .before)) _ _ (w .3 .ensures .1) (w .0 .left) (w .3 .ensures .0)))
-    (c .if1 .came)
-
--- The move is between pegs.
-pegs : (c : tie.Joined1 Inv-loop μ-loop) → (c .if1 .step .from < 3) × (c .if1 .step .to < 3)
+-- The leg's move is between pegs.
+pegs : (c : tie.After-leg-turn Inv-loop μ-loop) → (c .leg-turn .result .from < 3) × (c .leg-turn .result .to < 3)
+unfolding legTurn
 pegs c =
-    let may = safe (c .before .before) in
-    let is = made-next c in
-    (rw (← is) at (may .from), rw (← is) at (may .to))
+    let at = c .before .before .before .before in
+    let now = safe-leg _ _ (safe (at .before .before)) (at .if1 .taken) .0 in
+    rw (c .leg-turn .ensures .0) (now .from, now .to)
+
+-- One more move fits.
+room : (c : tie.In-loop Inv-loop μ-loop) → (2 * suc (c .before .loop .i) ≤ length (c .before .loop .out)) × (2 * suc (c .before .loop .i) < 2 ^ 64)
+room c = (omega arith, omega arith)
 
 add-out : tie.Need-add-out Inv-loop μ-loop
 add-out c = omega (arith, pegs (c .before))
 
 mul-out : tie.Need-mul-out Inv-loop μ-loop
-mul-out c = omega arith
+mul-out c = omega (arith, room (c .before .before .before .before .before .before .before))
 
 slice-write-out : tie.Need-slice-write-out Inv-loop μ-loop
-slice-write-out c = omega arith
+slice-write-out c = omega (arith, room (c .before .before .before .before .before .before .before))
 
 add-out-2 : tie.Need-add-out-2 Inv-loop μ-loop
 add-out-2 c = omega (arith, pegs (c .before .before))
 
 mul-out-2 : tie.Need-mul-out-2 Inv-loop μ-loop
-mul-out-2 c = omega arith
+mul-out-2 c = omega (arith, room (c .before .before .before .before .before .before .before .before))
 
 add-out-3 : tie.Need-add-out-3 Inv-loop μ-loop
-add-out-3 c = omega arith
+add-out-3 c = omega (arith, room (c .before .before .before .before .before .before .before .before))
 
 slice-write-out-2 : tie.Need-slice-write-out-2 Inv-loop μ-loop
-slice-write-out-2 c = simp length-set (omega arith)
+slice-write-out-2 c = simp length-set (omega (arith, room (c .before .before .before .before .before .before .before .before)))
 
 add-i : tie.Need-add-i Inv-loop μ-loop
-add-i c = omega arith
+add-i c = omega (arith, room (c .before .before .before .before .before .before .before .before .before))
 
 loop-less : tie.Need-loop-less Inv-loop μ-loop
 loop-less c = omega arith
 
--- One more move is written.
+-- The leg's own move is written.
 loop-again : tie.Need-loop-again Inv-loop μ-loop
 unfolding stepsFrom
 loop-again c =
     let at = c .before .before .before in
-    let inv = at .before .before .before .loop .inv in
-    let next = rw (inv .2) at (made-next at) in (
+    let leg = at .before .before .before in
+    let here = leg .before .before .before .before in
+    let inv = here .loop .inv in
+    let made = at .leg-turn .ensures in
+    let next =
+    rw (inv .2) at (leg-made (current here) _ _ (made .1) (leg .before .if1 .taken) (leg .next-leg .ensures) (made .0)) in (
       omega arith,
       simp length-set (inv .1),
       rw add-one (ap (λ (t : Stepped). t .stepper) next),
-      rw (inv .3) (simp add-one (go _ _ _ _ (omega arith) next)),
+      rw (inv .3) (simp add-one (go _ _ _ _ (omega (arith, start here .pre .0)) next)),
+    )
+
+sub-lesser : tie.Need-sub-lesser Inv-loop μ-loop
+sub-lesser c = omega arith
+
+lesser-requires : tie.Need-lesser-requires Inv-loop μ-loop
+lesser-requires c κs = search needs
+
+-- So many moves of the gathering are left, and so many are wanted.
+enough : (c : tie.After-lesser Inv-loop μ-loop) →
+    let here = c .before .before .before .before in
+    (0 < c .lesser .result) × (c .lesser .result ≤ here .loop .turn .left) × (here .loop .i + c .lesser .result ≤ start here .args .count)
+enough c = let is = c .lesser .ensures in let some = c .before .if1 .left in (omega arith, omega arith, omega arith)
+
+write-gathering-requires : tie.Need-write-gathering-requires Inv-loop μ-loop
+write-gathering-requires c κs =
+    let at = c .before .before .before in
+    let here = at .before .before .before .before in
+    let most = enough at in (
+      omega (arith, most, start here .pre .0, here .loop .inv .1),
+      λ j h. gathers-safe _ _ _ j (here .loop .inv .2) (omega arith) (start here .pre .1 _ (omega arith)),
+    )
+
+add-i-2 : tie.Need-add-i-2 Inv-loop μ-loop
+add-i-2 c =
+    let at = c .before .before .before .before .before .before in
+    omega (arith, enough at, start (at .before .before .before .before) .fits)
+
+loop-less-2 : tie.Need-loop-less-2 Inv-loop μ-loop
+loop-less-2 c = omega (arith, enough (c .before .before .before .before .before .before))
+
+-- So many moves of the gathering are written.
+loop-again-2 : tie.Need-loop-again-2 Inv-loop μ-loop
+loop-again-2 c =
+    let made = c .before .before .write-gathering .ensures in
+    let at = c .before .before .before .before .before .before in
+    let here = at .before .before .before .before in
+    let inv = here .loop .inv in
+    let most = enough at in (
+      most .2,
+      rw (made .1, length-sets) (inv .1),
+      gathered-steps _ _ _ (inv .2) _ (most .1) (made .0),
+      rw (made .1, inv .3) (gathered-letters _ _ _ (inv .2) _ (most .1) _ (omega (arith, most, start here .pre .0))),
     )
 
 same-length : tie.Need-same-length Inv-loop μ-loop
@@ -142,7 +179,6 @@ write-moves-spec =
     loop-holds
     next-leg-requires
     leg-turn-requires
-    gather-turn-requires
     add-out
     mul-out
     slice-write-out
@@ -153,5 +189,11 @@ write-moves-spec =
     add-i
     loop-less
     loop-again
+    sub-lesser
+    lesser-requires
+    write-gathering-requires
+    add-i-2
+    loop-less-2
+    loop-again-2
     same-length
     returns)
