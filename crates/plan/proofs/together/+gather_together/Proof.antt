@@ -1,5 +1,5 @@
 -- `plan::together::gather_together` meets its contract, by recursion on the number of discs, which is the measure. Assumes nothing.
-use Prim.Native.Nat.{ℕ, _-_}
+use Prim.Native.Nat.{ℕ, _-_, _<_}
 use native.Mathlib.Omega.{arith}
 use borrow.Author.Needs.{needs}
 use borrow.Fn.Kinds.{In}
