@@ -19,7 +19,7 @@ use Rattle.run.specs.declared.stepper.Leg.{Leg}
 use Rattle.run.specs.declared.stepper.Step.{Step}
 use Rattle.run.specs.declared.stepper.Stepper.{Stepper}
 use Rattle.run.specs.declared.stepper.Turn.{Turn}
-use Rattle.run.proofs.Letters.{letters-more, letters-length, stored}
+use Rattle.run.proofs.Letters.{letters-more, letters-length, sets-append, stored}
 use Rattle.run.proofs.Steps.{gather-small, gather-other, step-gather}
 
 -- A stepper without its leg.
@@ -106,13 +106,6 @@ gathered-length : (g : Gatherer) (i : ℕ) → length (gatherLetters g i) ≡ 2 
 unfolding gatherLetters
 gathered-length g zero = refl
 gathered-length g (suc i) = rw length-append (omega (arith, gathered-length g i))
-
--- What is stored right after a run of stores is stored with it.
-sets-append : (l : List ℕ) (n : ℕ) (xs ys : List ℕ) → sets l n (xs ++ ys) ≡ sets (sets l n xs) (n + length xs) ys
-sets-append l n [] ys = rw add-zero
-sets-append l n (x ∷ xs) ys =
-    let e : n + suc (length xs) ≡ suc n + length xs = omega arith in
-    rw e (sets-append (set l n x) (suc n) xs ys)
 
 module _ (g : Gatherer) (i : ℕ) {t b : List ℕ} {u : Turn} (here : gatherer t b u ≡ gathersFrom g i) {r : Step} (is : r ≡ gatherTurn t u) where
   -- A move of a gathering, made in the arrays, is the gatherer's next.

@@ -2,6 +2,7 @@
 use Prim.Native.Nat.{ℕ, zero, suc, _+_, _*_, _≤_}
 use mathlib.Core.List.{List, [], _∷_, _++_}
 use mathlib.Core.Path.{_≡_, refl, ap, _∙_}
+use native.Mathlib.Nat.{add-zero}
 use native.Mathlib.Omega.{arith}
 use lib.ListN.{length, drop, set, length-append, length-drop}
 use lib.Seq.{take-at, drop-append-add, drop-drop, sets, sets-eq}
@@ -34,6 +35,13 @@ pub letters-length : (s : Stepper) (q : ℕ → ℕ) (i : ℕ) → length (stepL
 unfolding stepLetters
 letters-length s q zero = refl
 letters-length s q (suc i) = omega (arith, letters-length (stepOf s q .stepper) q i)
+
+-- What is stored right after a run of stores is stored with it.
+pub sets-append : (l : List ℕ) (n : ℕ) (xs ys : List ℕ) → sets l n (xs ++ ys) ≡ sets (sets l n xs) (n + length xs) ys
+sets-append l n [] ys = rw add-zero
+sets-append l n (x ∷ xs) ys =
+    let e : n + suc (length xs) ≡ suc n + length xs = omega arith in
+    rw e (sets-append (set l n x) (suc n) xs ys)
 
 -- What is stored at the end of what is written is written too.
 pub stored : (xs vs o : List ℕ) (n : ℕ) → length xs ≡ n → n + length vs ≤ length o

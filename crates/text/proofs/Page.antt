@@ -1,12 +1,13 @@
 -- Texts put one after another.
 use Prim.Native.Nat.{ℕ, zero, suc, _+_, _*_, _<_, _≤_}
-use mathlib.Core.Path.{_≡_, refl}
+use mathlib.Core.Path.{_≡_, refl, sym}
 use mathlib.Core.List.{List, [], _∷_, _++_}
-use native.Mathlib.Nat.{add-zero, add-suc, suc-add}
+use native.Mathlib.Nat.{add-zero, add-suc}
 use native.Mathlib.Numerals.{add-one}
 use native.Mathlib.Omega.{arith}
 use lib.ListN.{length, getD, set, take, drop, length-append, length-take, drop-of-length-le}
 use lib.Seq.{sets, drop-cons, getD-take, length-take-le}
+use Rattle.run.proofs.Letters.{sets-append}
 use Rattle.text.specs.Input.{space}
 use Rattle.text.specs.Page.{Puts, spaced}
 
@@ -15,17 +16,12 @@ pub sets-past : (page bytes : List ℕ) (at i : ℕ) → i < length bytes
     → sets page (at + i) (drop i bytes) ≡ sets (set page (at + i) (getD bytes i 0)) (at + (i + 1)) (drop (i + 1) bytes)
 sets-past page bytes at i h = rw (drop-cons bytes i 0 h, add-one, add-suc)
 
--- Two texts put one after the other are put as one.
-pub sets-append : (page : List ℕ) (at : ℕ) (s t : List ℕ) → sets (sets page at s) (at + length s) t ≡ sets page at (s ++ t)
-sets-append page at [] t = rw add-zero
-sets-append page at (b ∷ s) t = rw (add-suc, ← suc-add) (sets-append (set page at b) (suc at) s t)
-
--- So a text is put by putting its parts: for lines, and for the report of lines.
+-- A text is put by putting its parts one after another: for lines, and for the report of lines.
 pub puts-then : {p q r s t : List ℕ} {at mid end : ℕ} → Puts p at s q mid → Puts q mid t r end → Puts p at (s ++ t) r end
 puts-then {p = p} {s = s} {t = t} {at = at} a b =
     record {
       place = omega (arith, a .place, b .place, length-append s t);
-      page = rw (b .page, a .page, a .place) (sets-append p at s t);
+      page = rw (b .page, a .page, a .place) (sym (sets-append p at s t));
     }
 
 -- Nothing is put by doing nothing.
