@@ -3,7 +3,7 @@ use Prim.Native.Nat.{ℕ, _*_, _≤_, _<_}
 use mathlib.Core.Path.{_≡_, _∙_, sym, refl}
 use mathlib.Core.Bool.{and-false}
 use mathlib.Core.List.{List, [], _∷_, _++_}
-use mathlib.Core.Logic.{_⊎_, inl, inr}
+use mathlib.Core.Logic.{_⊎_}
 use native.Mathlib.Omega.{arith}
 use borrow.Author.Tests.{lt-ltb, le-ltb}
 use lib.ListN.{length, take}
@@ -11,15 +11,12 @@ use lib.Seq.{take-at, take-all}
 use Rattle.board.specs.Task.{start, goal, taskVerdict}
 use Rattle.board.specs.declared.refusal.Verdict.the-variants.{Accepted}
 use Rattle.board.proofs.Accepted.{task-accepted}
-use Rattle.plan.specs.Plan.{routes, routesWay}
-use Rattle.plan.specs.declared.answer.Plan.{Plan}
-use Rattle.plan.specs.declared.answer.Way.{Way}
-use Rattle.plan.specs.declared.answer.Way.the-variants.{Still, Direct, Detour, Tie}
 use Rattle.route.specs.Answer.{lengthOf, countOf, taskRoute, runVerdict, runCount, runAnswer, runWrites, letters}
 use Rattle.route.specs.Route.{routeOf}
 use Rattle.route.specs.declared.answer.DiscMove.{DiscMove}
 use Rattle.route.specs.declared.answer.Ran.the-variants as ran
 use Rattle.route.proofs.Answers.{letters-length}
+use Rattle.route.proofs.Distinct.{routes-count}
 use Rattle.route.proofs.Shortest.{route-walk}
 use Rattle.text.specs.Page.{spaced}
 use Rattle.text.specs.Report.{movesText, mostMoves, routeLine, routeLines}
@@ -29,6 +26,12 @@ pub spaced-letters : (ms : List DiscMove) → spaced (letters ms) ≡ movesText 
 unfolding spaced letters movesText
 spaced-letters [] = refl
 spaced-letters (m ∷ ms) = rw (spaced-letters ms)
+
+-- A task that is accepted has one shortest route or two: so many lines are put.
+pub one-or-two : (t : List ℕ) → taskVerdict t ≡ Accepted → (countOf t ≡ 1) ⊎ (countOf t ≡ 2)
+one-or-two t accepted =
+    let s = task-accepted t accepted in
+    routes-count (start t) (goal t) (s .start-length ∙ sym (s .goal-length)) (s .start-formed) (s .goal-formed)
 
 module _ (t : List ℕ) (accepted : taskVerdict t ≡ Accepted) (r : ℕ) (known : r < countOf t) where
   -- A route has as many moves as the plan says.
@@ -66,16 +69,6 @@ module _ (t : List ℕ) (accepted : taskVerdict t ≡ Accepted) (r : ℕ) (known
         let all : take (lengthOf t) (taskRoute t r) ≡ taskRoute t r = take-all (lengthOf t) (taskRoute t r) (omega (arith, route-length)) in
         rw (passes, counts, all)
         (take-at (letters (taskRoute t r)) _ (2 * lengthOf t) (omega (arith, letters-length (taskRoute t r), route-length)))
-
--- There is one shortest route or there are two: so many lines are put.
-pub one-or-two : (p : Plan) → (routes p ≡ 1) ⊎ (routes p ≡ 2)
-one-or-two p = at (p .way)
-  where
-    at : (w : Way) → (routesWay w ≡ 1) ⊎ (routesWay w ≡ 2)
-    at Still = inl refl
-    at (Direct l) = inl refl
-    at (Detour l) = inl refl
-    at (Tie l) = inr refl
 
 -- The line of one route.
 pub one-line : (s t : List ℕ) → routeLines s t 1 ≡ routeLine 0 (routeOf s t 0)

@@ -1,7 +1,7 @@
 // The task program on byte slices: its reader and its report (document 01, "Task program", "One report in full").
-pub mod put;
-pub mod read;
-pub mod report;
+mod put;
+mod read;
+mod report;
 
 ghost use Prim.Native.Nat.{_≤_};
 ghost use Rattle.board.specs.Task.{start, goal, taskVerdict};

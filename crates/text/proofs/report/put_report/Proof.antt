@@ -20,7 +20,7 @@ put-head-requires c κs = search needs
 put-route-line-requires : tie.Need-put-route-line-requires
 put-route-line-requires c κs =
     let (accepted, same) = c .before .before .before .before .before .pre in
-    let some : 0 < routes (c .before .before .before .before .before .args .p) = ⊎-elim (λ e. omega arith) (λ e. omega arith) (one-or-two (c .before .before .before .before .before .args .p)) in
+    let some : 0 < routes (c .before .before .before .before .before .args .p) = ⊎-elim (λ e. omega arith) (λ e. omega arith) (rw (← same) at (one-or-two (c .before .before .before .before .before .args .task .now) accepted)) in
     (omega (arith, c .before .put-head .ensures .1), (accepted, rw same at some, rw (c .before .before .before .shortest .ensures, same)))
 
 routes-requires : tie.Need-routes-requires
@@ -40,7 +40,7 @@ put-route-line-requires-2 : tie.Need-put-route-line-requires-2
 put-route-line-requires-2 c κs =
     let (accepted, same) = c .before .before .before .before .before .before .before .before .before .pre in
     let two : 1 < routes (c .before .before .before .before .before .before .before .before .before .args .p) =
-    ⊎-elim (λ e. absurd (c .before .if1 .left (c .before .before .routes .ensures ∙ e))) (λ e. omega arith) (one-or-two (c .before .before .before .before .before .before .before .before .before .args .p)) in (
+    ⊎-elim (λ e. absurd (c .before .if1 .left (c .before .before .routes .ensures ∙ e))) (λ e. omega arith) (rw (← same) at (one-or-two (c .before .before .before .before .before .before .before .before .before .args .task .now) accepted)) in (
       omega (arith, c .before .before .before .before .before .put-head .ensures .1, c .before .before .before .put-route-line .ensures .1),
       (accepted, rw same at two, rw (c .before .before .before .before .before .before .before .shortest .ensures, same)),
     )
@@ -51,7 +51,7 @@ unfolding reportText
 returns-2 c =
     let (accepted, same) = c .before .before .before .before .before .before .before .before .before .before .pre in
     let two : routes (c .before .before .before .before .before .before .before .before .before .before .args .p) ≡ 2 =
-    ⊎-elim (λ e. absurd (c .before .before .if1 .left (c .before .before .before .routes .ensures ∙ e))) (λ e. e) (one-or-two (c .before .before .before .before .before .before .before .before .before .before .args .p)) in
+    ⊎-elim (λ e. absurd (c .before .before .if1 .left (c .before .before .before .routes .ensures ∙ e))) (λ e. e) (rw (← same) at (one-or-two (c .before .before .before .before .before .before .before .before .before .before .args .task .now) accepted)) in
     let head = c .before .before .before .before .before .before .put-head .ensures in
     let first = c .before .before .before .before .put-route-line .ensures in
     let second = c .put-route-line2 .ensures in (
