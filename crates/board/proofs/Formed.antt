@@ -1,13 +1,16 @@
 -- Laws of well-formed positions: a position is well formed when its bytes are all pegs.
 use Prim.Native.Nat.{ℕ, zero, suc, _<_, _≤_}
-use mathlib.Core.Bool.{Bool, _&&_, and-assoc, and-eq-true-iff}
+use mathlib.Core.Bool.{Bool, true, false, not, _&&_, and-assoc, and-eq-true-iff, false≢true}
 use mathlib.Core.List.{List, [], _∷_, _++_}
-use mathlib.Core.Path.{_≡_, refl, ap}
+use mathlib.Core.Logic.{_↔_}
+use mathlib.Core.Path.{_≡_, refl, ap, sym, _∙_}
+use native.Mathlib.Decide.{decLt}
 use native.Mathlib.Omega.{arith}
-use borrow.Author.Tests.{lt-ltb, ltb-true}
+use borrow.Author.Tests.{lt-ltb, ltb-true, not-true}
 use lib.Dec.{ltb}
 use lib.ListN.{length, take, drop, set, replicate, drop-of-length-le}
 use lib.Seq.{drop-cons}
+use Rattle.board.specs.Fault.{AboveTwo}
 use Rattle.board.specs.Position.{peg, wellFormed, WellFormed}
 
 -- The first byte of a well-formed position is a peg.
@@ -40,6 +43,26 @@ formed-pegs (b ∷ p) h (suc d) = formed-pegs p (formed-tail b p h) d
 pub pegs-formed : (p : List ℕ) → ((d : ℕ) → d < length p → peg p d < 3) → WellFormed p
 pegs-formed [] h = formed-nil
 pegs-formed (b ∷ p) h = formed-cons b p (h 0 (omega arith)) (pegs-formed p (λ d l. h (suc d) (omega arith)))
+
+-- A position that is not well formed has a byte above 2.
+formed-fails : (p : List ℕ) → wellFormed p ≡ false → AboveTwo p
+unfolding wellFormed
+formed-fails [] e = absurd (false≢true (sym e))
+formed-fails (b ∷ p) e =
+    elim (decLt b 3) [
+      | yes h ↦
+          let (d, l, above) = formed-fails p (sym (rw (lt-ltb b 3 h)) ∙ e) in
+          (suc d, omega arith, above)
+      | no n ↦ (0, omega arith, omega arith)
+    ]
+
+-- The test fails exactly where some byte is above 2.
+pub not-formed : (p : List ℕ) → (not (wellFormed p) ≡ true) ↔ AboveTwo p
+not-formed p = ((λ e. formed-fails p (not-true (wellFormed p) e)), λ (d, l, above). at (wellFormed p) refl d above)
+  where
+    at : (b : Bool) → wellFormed p ≡ b → (d : ℕ) → 2 < peg p d → not b ≡ true
+    at true e d above = absurd (omega (arith, formed-pegs p e d))
+    at false e d above = refl
 
 -- The first n bytes of a well-formed position are well formed.
 pub formed-take : (n : ℕ) (p : List ℕ) → WellFormed p → WellFormed (take n p)

@@ -1,6 +1,10 @@
--- Laws of the board's vocabulary.
+-- Laws of the board's vocabulary, in the order of its definitions.
 pub mod Pegs
 pub mod Formed
 pub mod Top
 pub mod Search
-pub mod Accepted
+pub mod Replies
+pub mod Obeys
+pub mod Tasks
+pub mod Legality
+pub mod Arrays

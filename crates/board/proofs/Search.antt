@@ -11,10 +11,6 @@ use lib.ListN.{length}
 use Rattle.board.specs.Move.{Move, Legal, Leads, done, next, top, moved}
 use Rattle.board.specs.Fewest.{Fewest, same, legal, anyPeg, reaches, first, fewest}
 
--- Two positions have one fewest number of moves.
-pub fewest-unique : {p q : List ℕ} {j k : ℕ} → Fewest p q j → Fewest p q k → j ≡ k
-fewest-unique f g = omega (arith, f .least (g .some .0) (g .some .1), g .least (f .some .0) (f .some .1))
-
 -- Two positions that pass the test are the same.
 pub same-sound : (p q : List ℕ) → same p q ≡ true → p ≡ q
 unfolding same
@@ -30,6 +26,14 @@ pub same-refl : (p : List ℕ) → same p p ≡ true
 unfolding same
 same-refl [] = refl
 same-refl (b ∷ p) = rw (eq-eqb b b refl) (same-refl p)
+
+-- Two positions that differ fail it.
+pub same-apart : (p q : List ℕ) → p ≢ q → same p q ≡ false
+same-apart p q n = at (same p q) refl
+  where
+    at : (b : Bool) → same p q ≡ b → same p q ≡ false
+    at true e = absurd (n (same-sound p q e))
+    at false e = e
 
 -- A move between pegs that passes the test is legal.
 pub legal-sound : (p : List ℕ) (m : Move) → m .from < 3 → m .to < 3 → legal p m ≡ true → Legal p m

@@ -1,13 +1,16 @@
 -- The smallest disc of a peg, and what a move leaves of a position.
 use Prim.Native.Nat.{ℕ, zero, suc, _≤_, _<_}
-use mathlib.Core.Path.{_≡_}
+use mathlib.Core.Bool.{Bool, true, false, cond}
+use mathlib.Core.Path.{_≡_, refl, ap}
 use mathlib.Core.List.{List, [], _∷_}
 use mathlib.Core.Logic.{_≢_}
 use native.Mathlib.Decide.{ℕ-discrete, decLt}
 use native.Mathlib.Omega.{arith}
 use borrow.Author.Tests.{eq-eqb, ne-eqb}
+use lib.Dec.{eqb}
 use lib.ListN.{length, length-set}
 use lib.Seq.{getD-set-same, getD-set-other}
+use Rattle.bytes.specs.Bytes.{indexAfter, indexOf}
 use Rattle.board.specs.Position.{peg}
 use Rattle.board.specs.Move.{Move, top, moved}
 
@@ -57,6 +60,14 @@ top-at p i d h on none =
       | no n ↦ elim (decLt d (top p i)) [ yes l ↦ absurd (top-before p i d l on) | no m ↦ omega arith ]
     ]
 
+-- Where no disc is on the peg, its top is the number of discs.
+pub top-none : (p : List ℕ) (i : ℕ) → ((d : ℕ) → d < length p → peg p d ≢ i) → top p i ≡ length p
+top-none p i none =
+    elim (decLt (top p i) (length p)) [
+      | yes l ↦ absurd (none (top p i) l (top-on p i l))
+      | no n ↦ omega (arith, top-le p i)
+    ]
+
 -- Where no disc up to d is on the peg, its smallest is after d.
 pub top-after : (p : List ℕ) (i d : ℕ) → d < length p → ((e : ℕ) → e ≤ d → peg p e ≢ i) → d < top p i
 top-after p i d h none =
@@ -79,3 +90,13 @@ moved-disc p m h = getD-set-same p _ _ _ h
 pub moved-others : (p : List ℕ) (m : Move) (d : ℕ) → d ≢ top p (m .from) → peg (moved p m) d ≡ peg p d
 unfolding moved
 moved-others p m d n = getD-set-other p _ d _ _ n
+
+-- The smallest disc of a peg is where the peg's byte is first found.
+pub top-index : (p : List ℕ) (i : ℕ) → indexOf i p ≡ top p i
+unfolding top indexOf indexAfter
+top-index [] i = refl
+top-index (b ∷ p) i = at (eqb b i) (top-index p i)
+  where
+    at : (t : Bool) → indexOf i p ≡ top p i → indexAfter t (indexOf i p) ≡ cond t 0 (suc (top p i))
+    at true e = refl
+    at false e = ap suc e

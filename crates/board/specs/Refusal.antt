@@ -1,6 +1,6 @@
 -- The refusals and their numbers (document 01, "The operations and when each refuses").
 use Prim.Native.Nat.{ℕ}
-use mathlib.Core.Bool.{Bool, true, false}
+use Rattle.board.specs.Reply.{refused, Check, pass}
 use Rattle.board.specs.declared.refusal.Refusal.{Refusal}
 use Rattle.board.specs.declared.refusal.Refusal.the-variants.{
   OddLength,
@@ -34,12 +34,7 @@ number UnsoundRecord = 10
 number TooManyPlays = 11
 number BadText = 12
 
--- A check: refuse where the fault is there, else go on to the checks after it.
-abbrev pub check : Bool → Refusal → Verdict → Verdict
-check true r v = Refused r
-check false r v = v
-
--- The first fault of two groups of checks, the second group after the first.
-abbrev pub andThen : Verdict → Verdict → Verdict
-andThen Accepted v = v
-andThen (Refused r) v = Refused r
+-- What a verdict says, in that number.
+abbrev pub verdictReply : Verdict → Check
+verdictReply Accepted = pass
+verdictReply (Refused r) = refused (number r)

@@ -5,10 +5,7 @@ use mathlib.Core.List.{List}
 use lib.Dec.{eqb, ltb}
 use lib.ListN.{length, take, drop}
 use Rattle.board.specs.Position.{wellFormed}
-use Rattle.board.specs.Refusal.{check}
-use Rattle.board.specs.declared.refusal.Refusal.the-variants.{OddLength, TooManyDiscs, NotAPeg}
-use Rattle.board.specs.declared.refusal.Verdict.{Verdict}
-use Rattle.board.specs.declared.refusal.Verdict.the-variants.{Accepted}
+use Rattle.board.specs.Reply.{_>>_, Check, check}
 
 -- The most discs that a board has.
 abbrev pub limit : ℕ
@@ -23,17 +20,15 @@ start t = take (discs t) t
 abbrev pub goal : List ℕ → List ℕ
 goal t = drop (discs t) t
 
--- The task faults in their order: 1, length odd; 2, too many discs; 3, a byte above 2.
-unfoldable pub taskVerdict : List ℕ → Verdict
-taskVerdict t =
-    check (eqb (length t % 2) 1) OddLength
-    (check (ltb limit (discs t)) TooManyDiscs
-    (check (not (wellFormed t)) NotAPeg
-    Accepted))
+-- Task faults: 1, length odd; 2, more than 60 discs; 3, a byte above 2.
+unfoldable pub taskCheck : List ℕ → Check
+taskCheck t = do
+  check (eqb (length t % 2) 1) 1
+  check (ltb limit (discs t)) 2
+  check (not (wellFormed t)) 3
 
--- The faults of a position by itself: 2, too many discs; 3, a byte above 2.
-unfoldable pub positionVerdict : List ℕ → Verdict
-positionVerdict p =
-    check (ltb limit (length p)) TooManyDiscs
-    (check (not (wellFormed p)) NotAPeg
-    Accepted)
+-- The faults of a position by itself: 2, more than 60 discs; 3, a byte above 2.
+unfoldable pub positionCheck : List ℕ → Check
+positionCheck p = do
+  check (ltb limit (length p)) 2
+  check (not (wellFormed p)) 3

@@ -1,10 +1,9 @@
-// Positions: the limit on discs, the test of their bytes, and the faults of a position by itself, in document 01's order.
-ghost use mathlib.Core.List.{_++_};
+// Positions: the limit on discs, the tests of their bytes, and the faults of a position by itself, in document 01's order.
 ghost use mathlib.Core.Path.{_≡_};
-ghost use Prim.Native.Nat.{_≤_};
-ghost use lib.ListN.{length, drop};
+ghost use Rattle.board.specs.Fewest.{same};
 ghost use Rattle.board.specs.Position.{wellFormed};
-ghost use Rattle.board.specs.Task.{positionVerdict};
+ghost use Rattle.board.specs.Refusal.{verdictReply};
+ghost use Rattle.board.specs.Task.{positionCheck};
 use crate::refusal::Refusal;
 use crate::refusal::Verdict;
 
@@ -24,21 +23,26 @@ pub fn only_pegs(bytes: &[u8]) -> bool
     all
 }
 
-// Copies bytes to the start of a buffer.
-pub fn copy_first(from: &[u8], out: &mut [u8])
-    requires { ⌜ length (now from) ≤ length (now out) ⌝ }
-    ensures { λ _. ⌜ now (out .exit) ≡ now (from .entry) ++ drop (length (now (from .entry))) (now (out .entry)) ⌝ }
+// Whether two positions are the same.
+pub fn same_position(a: &[u8], b: &[u8]) -> bool
+    ensures { λ r. ⌜ r ≡ same (now (a .entry)) (now (b .entry)) ⌝ }
 {
+    if a.len() != b.len() {
+        return false;
+    }
     let mut i = 0;
-    while i < from.len() {
-        out[i] = from[i];
+    while i < a.len() {
+        if a[i] != b[i] {
+            return false;
+        }
         i += 1;
     }
+    true
 }
 
 // The first fault of a position.
 pub fn position_verdict(position: &[u8]) -> Verdict
-    ensures { λ r. ⌜ r ≡ positionVerdict (now (position .entry)) ⌝ }
+    ensures { λ r. ⌜ verdictReply r ≡ positionCheck (now (position .entry)) ⌝ }
 {
     if LIMIT < position.len() {
         return Verdict::Refused(Refusal::TooManyDiscs);

@@ -1,6 +1,7 @@
 // The faults of a task, in document 01's order.
 ghost use mathlib.Core.Path.{_≡_};
-ghost use Rattle.board.specs.Task.{taskVerdict};
+ghost use Rattle.board.specs.Refusal.{verdictReply};
+ghost use Rattle.board.specs.Task.{taskCheck};
 use crate::position::LIMIT;
 use crate::position::only_pegs;
 use crate::refusal::Refusal;
@@ -8,7 +9,7 @@ use crate::refusal::Verdict;
 
 // The first fault of a task.
 pub fn task_verdict(task: &[u8]) -> Verdict
-    ensures { λ r. ⌜ r ≡ taskVerdict (now (task .entry)) ⌝ }
+    ensures { λ r. ⌜ verdictReply r ≡ taskCheck (now (task .entry)) ⌝ }
 {
     if task.len() % 2 == 1 {
         return Verdict::Refused(Refusal::OddLength);

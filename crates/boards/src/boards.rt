@@ -1,5 +1,5 @@
 // Document 01's boards on Gather and Plan.
-use crate::print;
+use crate::lines;
 
 // 60 discs, all on peg 0, to all on peg 2.
 pub fn tower_task() -> [u8; 120] {
@@ -12,23 +12,35 @@ pub fn tower_task() -> [u8; 120] {
     task
 }
 
-pub fn all() {
-    print::plan_line(b"[] to []", b"");
-    print::plan_line(b"[0] to [2]", b"\x00\x02");
-    print::plan_line(b"[0, 0] to [2, 2]", b"\x00\x00\x02\x02");
-    print::plan_line(b"[1, 0] to [0, 1]", b"\x01\x00\x00\x01");
-    print::plan_line(b"[1, 1, 0] to [0, 0, 1]", b"\x01\x01\x00\x00\x00\x01");
-    print::plan_line(b"[1, 1, 0] to [2, 2, 1]", b"\x01\x01\x00\x02\x02\x01");
-    print::plan_line(
+fn small() {
+    lines::plan(b"[] to []", b"");
+    lines::plan(b"[0] to [2]", b"\x00\x02");
+    lines::plan(b"[0, 0] to [2, 2]", b"\x00\x00\x02\x02");
+    lines::plan(b"[1, 0] to [0, 1]", b"\x01\x00\x00\x01");
+}
+
+fn large() {
+    lines::plan(b"[1, 1, 0] to [0, 0, 1]", b"\x01\x01\x00\x00\x00\x01");
+    lines::plan(b"[1, 1, 0] to [2, 2, 1]", b"\x01\x01\x00\x02\x02\x01");
+    lines::plan(
         b"[0, 1, 2, 0, 0, 1] to [1, 2, 0, 1, 1, 0]",
         b"\x00\x01\x02\x00\x00\x01\x01\x02\x00\x01\x01\x00",
     );
-    print::plan_line(b"60 discs, all 0 to all 2", &tower_task());
-    print::gather_line(
+    lines::plan(b"60 discs, all 0 to all 2", &tower_task());
+}
+
+fn gathers() {
+    lines::gather(
         b"[2, 1, 1, 2, 2, 1] to peg 1",
         b"\x02\x01\x01\x02\x02\x01",
         1,
     );
-    print::gather_line(b"[] to peg 0", b"", 0);
-    print::gather_line(b"60 discs, all 0, to peg 2", &[0u8; 60], 2);
+    lines::gather(b"[] to peg 0", b"", 0);
+    lines::gather(b"60 discs, all 0, to peg 2", &[0u8; 60], 2);
+}
+
+pub fn all() {
+    small();
+    large();
+    gathers();
 }

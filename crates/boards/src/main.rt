@@ -1,7 +1,7 @@
 // Prints what the library answers on document 01's boards and on faulty calls.
 mod boards;
 mod faults;
-mod print;
+mod lines;
 mod routes;
 
 fn main() {

@@ -1,66 +1,91 @@
--- What the theorems say of the calls: when Gather and Plan accept, and that what they then answer is the fewest.
-use Prim.Native.Nat.{ℕ, _+_, _≤_, _<_}
-use mathlib.Core.Path.{_≡_, _∙_, refl, sym, subst}
-use mathlib.Core.Bool.{not}
-use mathlib.Core.List.{List}
+-- What Gather and Plan answer, and when: the laws for whoever calls them.
+use Prim.Native.Nat.{ℕ, _<_}
+use mathlib.Core.List.{List, append-nil}
+use mathlib.Core.Logic.{_↔_}
+use mathlib.Core.Bool.{true, not}
+use mathlib.Core.Path.{_≡_, _∙_, sym}
 use native.Mathlib.Omega.{arith}
-use borrow.Author.Tests.{lt-ltb, le-ltb, ltb-true, not-false}
+use borrow.Author.Tests.{le-ltb, ltb-true, ltb-false, not-true, not-false}
 use lib.Dec.{ltb}
 use lib.ListN.{length, replicate}
-use Rattle.board.specs.Position.{peg, WellFormed}
-use Rattle.board.specs.Fewest.{Fewest}
-use Rattle.board.specs.Refusal.{check}
-use Rattle.board.specs.Task.{limit, discs, start, goal, taskVerdict, positionVerdict}
-use Rattle.board.specs.declared.refusal.Refusal.the-variants.{NotAPeg}
-use Rattle.board.specs.declared.refusal.Verdict.{Verdict}
-use Rattle.board.specs.declared.refusal.Verdict.the-variants.{Accepted, Refused}
-use Rattle.board.proofs.Accepted.{SoundTask, task-accepted, sound-accepted, position-accepted, check-accepted, both-accepted}
+use Rattle.board.specs.Fault.{Obeys, Faultless, taskFaults}
+use Rattle.board.specs.Fewest.{Fewest, fewest}
+use Rattle.board.specs.Position.{peg}
+use Rattle.board.specs.Reply.{refused, answer, pass}
+use Rattle.board.specs.Task.{start, goal, taskCheck, positionCheck}
+use Rattle.board.proofs.Obeys.{answer-obeys, check-obeys, then-obeys}
+use Rattle.board.proofs.Replies.{then-answered, then-refused, check-answered}
+use Rattle.board.proofs.Tasks.{SoundTask, SoundPosition, task-accepted, faultless-accepted, position-accepted, task-obeys, position-obeys}
+use Rattle.plan.specs.Answer.{gatherAnswer, planAnswer}
+use Rattle.plan.specs.Faults.{gatherFaults}
 use Rattle.plan.specs.Gather.{gather}
 use Rattle.plan.specs.Plan.{planOf, shortest}
-use Rattle.plan.specs.Answer.{gatherVerdict, gatherAnswer, lengthOr, planAnswer, planOr}
-use Rattle.plan.specs.declared.answer.Gathered.the-variants as gathered
+use Rattle.plan.specs.Stacks.{Stacks}
 use Rattle.plan.specs.declared.answer.Plan.{Plan}
-use Rattle.plan.specs.declared.answer.Planned.the-variants as planned
-use Rattle.plan.proofs.Optimal.{shortest-fewest, gather-fewest}
+use Rattle.plan.proofs.Optimal.{shortest-fewest, fewest-shortest, gather-fewest}
 
--- A task of even length, with at most `limit` discs and pegs everywhere, is planned: with no fault Plan never refuses.
-pub plan-accepts : (t : List ℕ) → length t ≡ discs t + discs t → discs t ≤ limit → WellFormed t
-    → planAnswer t ≡ planned.Plan (planOf (start t) (goal t))
+-- Gather is refused as its faults say, and never else (demand 1).
+pub gather-obeys : (p : List ℕ) (j : ℕ) → Obeys (gatherFaults p j) (gatherAnswer p j)
+unfolding gatherAnswer
+gather-obeys p j =
+    let peg-above : (not (ltb j 3) ≡ true) ↔ (2 < j) =
+    ((λ e. omega (arith, ltb-false j 3 (not-true (ltb j 3) e))), λ h. rw (le-ltb j 3 (omega arith))) in
+    then-obeys (position-obeys p) (then-obeys (check-obeys (not (ltb j 3)) 3 peg-above) (answer-obeys _))
+
+-- So is Plan.
+pub plan-obeys : (t : List ℕ) → Obeys (taskFaults t) (planAnswer t)
 unfolding planAnswer
-plan-accepts t even within formed = rw (sound-accepted t even within formed)
+plan-obeys t = rw (← append-nil (taskFaults t)) (then-obeys (task-obeys t) (answer-obeys _))
 
--- A plan is answered only to a task with no fault, and is that task's plan.
-pub plan-or : (v : Verdict) (p q : Plan) → planOr v p ≡ planned.Plan q → (v ≡ Accepted) × (p ≡ q)
-plan-or Accepted p q e = (refl, cc)
-plan-or (Refused r) p q e = let z : _≡_ {A = ℕ} 0 1 = cc in absurd (omega arith)
-
-pub plan-answered : (t : List ℕ) (r : Plan) → planAnswer t ≡ planned.Plan r → SoundTask t × (planOf (start t) (goal t) ≡ r)
+-- A task without faults is planned by the rules.
+pub plan-accepts : (t : List ℕ) → Faultless (taskFaults t) → planAnswer t ≡ answer (planOf (start t) (goal t))
 unfolding planAnswer
-plan-answered t r e = let (v, p) = plan-or (taskVerdict t) (planOf (start t) (goal t)) r e in (task-accepted t v, p)
+plan-accepts t none = rw (faultless-accepted t none)
+
+-- What an answered plan says: its task is sound, and it is the plan of the rules.
+pub record Opened (t : List ℕ) (p : Plan) : Type 0 where
+  pub accepted : taskCheck t ≡ pass
+  pub sound : SoundTask t
+  pub plan : planOf (start t) (goal t) ≡ p
+
+pub plan-answered : (t : List ℕ) {p : Plan} → planAnswer t ≡ answer p → Opened t p
+unfolding planAnswer
+plan-answered t e =
+    let (accepted, same) = then-answered (taskCheck t) (answer (planOf (start t) (goal t))) e in
+    record { accepted = accepted; sound = task-accepted t accepted; plan = cc }
+
+-- A refused task is one whose check refuses it, with the same number.
+pub plan-refused : (t : List ℕ) {k : ℕ} → planAnswer t ≡ refused k → taskCheck t ≡ refused k
+unfolding planAnswer
+plan-refused t e = then-refused (taskCheck t) _ e
 
 -- The shortest of an answered plan is the fewest from start to goal.
-pub plan-fewest : (t : List ℕ) (r : Plan) → planAnswer t ≡ planned.Plan r → Fewest (start t) (goal t) (shortest r)
-plan-fewest t r e =
-    let (s, p) = plan-answered t r e in
-    subst (λ (r : Plan). Fewest (start t) (goal t) (shortest r)) p
-    (shortest-fewest (start t) (goal t) (s .start-length ∙ sym (s .goal-length)) (s .start-formed) (s .goal-formed))
+pub plan-fewest : (t : List ℕ) {p : Plan} → planAnswer t ≡ answer p → shortest p ≡ fewest (start t) (goal t)
+plan-fewest t e =
+    let o = plan-answered t e in
+    let s = o .sound in
+    rw (← o .plan) (sym (fewest-shortest (start t) (goal t) (s .start-length ∙ sym (s .goal-length)) (s .start-formed) (s .goal-formed)))
 
--- A position of at most `limit` discs with pegs everywhere, and a peg, are answered: with no fault Gather never refuses.
-pub gather-accepts : (p : List ℕ) (j : ℕ) → length p ≤ limit → WellFormed p → j < 3
-    → gatherAnswer p j ≡ gathered.Length (gather (peg p) (length p) j)
-unfolding gatherAnswer gatherVerdict positionVerdict
-gather-accepts p j within formed hj = rw (le-ltb limit (length p) within, formed, lt-ltb j 3 hj)
+-- A length that Gather answers is the rule's, and the fewest that stack the position on the peg.
+pub record Stacked (p : List ℕ) (j k : ℕ) : Type 0 where
+  pub sound : SoundPosition p
+  pub target : j < 3
+  pub rule : k ≡ gather (peg p) (length p) j
+  pub fewest : Fewest p (replicate (length p) j) k
 
--- A length is answered only to a call with no fault, and is that call's.
-pub length-or : (v : Verdict) (n k : ℕ) → lengthOr v n ≡ gathered.Length k → (v ≡ Accepted) × (n ≡ k)
-length-or Accepted n k e = (refl, cc)
-length-or (Refused r) n k e = let z : _≡_ {A = ℕ} 0 1 = cc in absurd (omega arith)
+pub gather-answered : (p : List ℕ) (j : ℕ) {k : ℕ} → gatherAnswer p j ≡ answer k → Stacked p j k
+unfolding gatherAnswer
+gather-answered p j {k} e =
+    let (position, rest) = then-answered (positionCheck p) _ e in
+    let (target, same) = check-answered (not (ltb j 3)) 3 _ rest in
+    let s = position-accepted p position in
+    let hj = ltb-true j 3 (not-false (ltb j 3) target) in
+    let rule : gather (peg p) (length p) j ≡ k = cc in
+    record { sound = s; target = hj; rule = sym rule; fewest = rw rule at (gather-fewest p j (s .formed) hj) }
 
--- A length that Gather answers is the fewest that stack the position on the peg.
-pub gather-right : (p : List ℕ) (j k : ℕ) → gatherAnswer p j ≡ gathered.Length k → Fewest p (replicate (length p) j) k
-unfolding gatherAnswer gatherVerdict
-gather-right p j k e =
-    let (v, n) = length-or (gatherVerdict p j) (gather (peg p) (length p) j) k e in
-    let (position, target) = both-accepted (positionVerdict p) (check (not (ltb j 3)) NotAPeg Accepted) v in
-    let hj = ltb-true j 3 (not-false (ltb j 3) (check-accepted (not (ltb j 3)) NotAPeg Accepted target .0)) in
-    rw n at (gather-fewest p j (position-accepted p position .formed) hj)
+-- Demand 2 of Gather, on every position and peg without faults.
+pub stacks : (p : List ℕ) (j : ℕ) → Faultless (gatherFaults p j) → Stacks p j
+stacks p j none =
+    let (k, answered) = gather-obeys p j .answers none in
+    let s = gather-answered p j answered in
+    record { moves = k; answered = answered; rule = s .rule; fewest = s .fewest }

@@ -8,7 +8,7 @@ use Rattle.board.specs.Position.{peg}
 use Rattle.board.specs.Task.{limit}
 use Rattle.board.proofs.Formed.{formed-pegs}
 use Rattle.plan.specs.Gather.{gather}
-use Rattle.plan.specs.Sound.{Gatherable}
+use Rattle.plan.specs.Inner.Sound.{Gatherable}
 use Rattle.plan.specs.Tower.{towerLength}
 use Rattle.plan.proofs.Gathering.{gather-bound}
 

@@ -10,7 +10,7 @@ use borrow.Author.Tests.{eq-eqb, ne-eqb}
 use Rattle.board.specs.Peg.{third}
 use Rattle.board.proofs.Pegs.{third-same}
 use Rattle.plan.specs.Gather.{gather}
-use Rattle.plan.specs.Three.{Three}
+use Rattle.plan.specs.Inner.Three.{Three}
 use Rattle.plan.proofs.Three.{three-third, three-swap, three-flip, compare-pegs}
 
 -- Every disc is on a peg.

@@ -6,7 +6,7 @@ use native.Mathlib.Decide.{decLt, decLe}
 use native.Mathlib.Omega.{arith}
 use Rattle.board.specs.Peg.{third}
 use Rattle.plan.specs.Gather.{gather}
-use Rattle.plan.specs.Three.{Three}
+use Rattle.plan.specs.Inner.Three.{Three}
 use Rattle.plan.proofs.Three.{three-swap, three-turn, three-flip, compare-pegs}
 use Rattle.plan.proofs.Gathering.{Pegs, gather-shift, gathered-tower}
 use Rattle.plan.proofs.Step.{Step, step-back, step-more, step-largest, gather-lower, put, put-same, put-other, put-pegs}

@@ -15,8 +15,8 @@ use Rattle.board.specs.Peg.{third}
 use Rattle.board.specs.Position.{peg}
 use Rattle.board.proofs.Pegs.{third-peg}
 use Rattle.plan.specs.Gather.{gather}
-use Rattle.plan.specs.Sound.{Together}
-use Rattle.plan.specs.Together.{added, together}
+use Rattle.plan.specs.Inner.Sound.{Together}
+use Rattle.plan.specs.Inner.Together.{added, together}
 use Rattle.plan.proofs.Gathering.{gather-cong}
 
 -- 1 where disc k is not on its target, else 0, as the code says it.

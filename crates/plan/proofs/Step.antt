@@ -10,7 +10,7 @@ use borrow.Author.Tests.{eq-eqb, ne-eqb}
 use Rattle.board.specs.Peg.{third}
 use Rattle.board.proofs.Pegs.{third-peg, third-same, third-comm}
 use Rattle.plan.specs.Gather.{gather}
-use Rattle.plan.specs.Three.{Three}
+use Rattle.plan.specs.Inner.Three.{Three}
 use Rattle.plan.proofs.Three.{three-swap, three-turn, three-flip, compare-pegs, each-peg}
 use Rattle.plan.proofs.Gathering.{Pegs, Tower, gather-home, gather-away, gather-tower, gather-shift, gathered-tower}
 

@@ -6,7 +6,7 @@ use native.Mathlib.Decide.{ℕ-discrete}
 use native.Mathlib.Omega.{arith}
 use Rattle.board.specs.Peg.{third}
 use Rattle.board.proofs.Pegs.{third-else}
-use Rattle.plan.specs.Three.{Three}
+use Rattle.plan.specs.Inner.Three.{Three}
 
 -- Two different pegs and their third.
 pub three : (i j : ℕ) → i < 3 → j < 3 → i ≢ j → Three i j (third i j)

@@ -1,15 +1,13 @@
--- What Gather and Plan answer, refusals first (document 01, "The operations and when each refuses").
+-- What Gather and Plan answer (document 01, "The operations and when each refuses").
 use Prim.Native.Nat.{ℕ}
 use mathlib.Core.Bool.{not}
 use mathlib.Core.List.{List}
 use lib.Dec.{ltb}
 use lib.ListN.{length}
 use Rattle.board.specs.Position.{peg}
-use Rattle.board.specs.Refusal.{check, andThen}
-use Rattle.board.specs.Task.{start, goal, taskVerdict, positionVerdict}
-use Rattle.board.specs.declared.refusal.Refusal.the-variants.{NotAPeg}
-use Rattle.board.specs.declared.refusal.Verdict.{Verdict}
-use Rattle.board.specs.declared.refusal.Verdict.the-variants.{Accepted, Refused}
+use Rattle.board.specs.Refusal.{number}
+use Rattle.board.specs.Reply.{Reply, refused, answer, _>>_, check}
+use Rattle.board.specs.Task.{start, goal, taskCheck, positionCheck}
 use Rattle.plan.specs.Gather.{gather}
 use Rattle.plan.specs.Plan.{planOf}
 use Rattle.plan.specs.declared.answer.Gathered.{Gathered}
@@ -18,22 +16,26 @@ use Rattle.plan.specs.declared.answer.Plan.{Plan}
 use Rattle.plan.specs.declared.answer.Planned.{Planned}
 use Rattle.plan.specs.declared.answer.Planned.the-variants as planned
 
--- The faults of a call of Gather: 2; 3 for a byte or the peg.
-unfoldable pub gatherVerdict : List ℕ → ℕ → Verdict
-gatherVerdict p j = andThen (positionVerdict p) (check (not (ltb j 3)) NotAPeg Accepted)
+-- What an answer of Gather says: the length.
+abbrev pub gatherReply : Gathered → Reply ℕ
+gatherReply (gathered.Length k) = answer k
+gatherReply (gathered.Refused r) = refused (number r)
 
--- A length, or the refusal alone.
-abbrev pub lengthOr : Verdict → ℕ → Gathered
-lengthOr Accepted k = gathered.Length k
-lengthOr (Refused r) k = gathered.Refused r
+-- Gather: 2; 3 for a byte or the peg.
+unfoldable pub gatherAnswer : List ℕ → ℕ → Reply ℕ
+gatherAnswer p j = do
+  positionCheck p
+  check (not (ltb j 3)) 3
+  answer (gather (peg p) (length p) j)
 
-unfoldable pub gatherAnswer : List ℕ → ℕ → Gathered
-gatherAnswer p j = lengthOr (gatherVerdict p j) (gather (peg p) (length p) j)
+-- What an answer of Plan says: still, direct, detour or tie, each with its lengths, in the plan's `way`; and what document 01 leaves free,
+-- the number of discs, the largest that moves and its two pegs.
+abbrev pub planReply : Planned → Reply Plan
+planReply (planned.Plan p) = answer p
+planReply (planned.Refused r) = refused (number r)
 
--- A plan, or the refusal alone.
-abbrev pub planOr : Verdict → Plan → Planned
-planOr Accepted r = planned.Plan r
-planOr (Refused r) q = planned.Refused r
-
-unfoldable pub planAnswer : List ℕ → Planned
-planAnswer t = planOr (taskVerdict t) (planOf (start t) (goal t))
+-- Plan: task faults.
+unfoldable pub planAnswer : List ℕ → Reply Plan
+planAnswer t = do
+  taskCheck t
+  answer (planOf (start t) (goal t))

@@ -3,6 +3,7 @@
 use Prim.Native.Nat.{ℕ, zero, suc, _+_, _^_}
 use mathlib.Core.Bool.{cond}
 use mathlib.Core.List.{List}
+use mathlib.Core.Path.{_≡_}
 use lib.Dec.{eqb, ltb}
 use lib.ListN.{length}
 use Rattle.board.specs.Peg.{third}
@@ -64,3 +65,17 @@ routesWay (Tie l) = 2
 
 abbrev pub routes : Plan → ℕ
 routes r = routesWay (r .way)
+
+-- The one-move and the two-move plan tie when their lengths are equal; a still plan has none.
+abbrev pub Tied : Way → Type 0
+Tied Still = ⊥
+Tied (Direct l) = l .direct ≡ l .detour
+Tied (Detour l) = l .direct ≡ l .detour
+Tied (Tie l) = l .direct ≡ l .detour
+
+-- The two lengths of a way; a still plan has none.
+abbrev pub HasLengths : Way → Lengths → Type 0
+HasLengths Still l = ⊥
+HasLengths (Direct m) l = m ≡ l
+HasLengths (Detour m) l = m ≡ l
+HasLengths (Tie m) l = m ≡ l

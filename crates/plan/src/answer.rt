@@ -1,7 +1,7 @@
 // What Gather and Plan answer.
 ghost use mathlib.Core.Path.{_≡_};
 ghost use Rattle.plan.specs.Plan.{wayOf, shortest as shortestOf, routes as routesOf};
-use board::refusal::Refusal;
+use board::Refusal;
 
 // Gather's answer.
 pub enum Gathered {

@@ -4,11 +4,12 @@ ghost use Prim.Native.Nat.{_<_};
 ghost use lib.ListN.{length};
 ghost use Rattle.board.specs.Position.{peg};
 ghost use Rattle.plan.specs.Plan.{largest, lengthsOf, planOf};
-ghost use Rattle.plan.specs.Sound.{Ends};
+ghost use Rattle.plan.specs.Inner.Sound.{Ends};
 use crate::answer::Lengths;
 use crate::answer::Plan;
 use crate::answer::Way;
 use crate::together::gather_together;
+use board::LIMIT;
 
 // The largest disc whose pegs differ, or 0.
 pub fn largest_moving(start: &[u8], goal: &[u8]) -> usize
@@ -33,11 +34,11 @@ fn lengths(start: &[u8], goal: &[u8], k: usize) -> Lengths
 {
     let a = start[k];
     let b = goal[k];
-    let c = board::peg::third(a, b);
-    let mut from = [0; 60];
-    let mut to = [0; 60];
-    board::position::copy_first(start, &mut from);
-    board::position::copy_first(goal, &mut to);
+    let c = board::third(a, b);
+    let mut from = [0; LIMIT];
+    let mut to = [0; LIMIT];
+    bytes::copy(start, &mut from);
+    bytes::copy(goal, &mut to);
     let mut sums = [0; 2];
     gather_together(
         &from,

@@ -2,7 +2,7 @@
 ghost use mathlib.Core.Path.{_≡_};
 ghost use Rattle.board.specs.Position.{peg};
 ghost use Rattle.plan.specs.Gather.{gather};
-ghost use Rattle.plan.specs.Sound.{Gatherable};
+ghost use Rattle.plan.specs.Inner.Sound.{Gatherable};
 
 // The moves that stack the k smallest discs on a target. Disc k is 2^(k - 1) moves from its target where it is not on it; the
 // next smaller disc's target is the third peg of that target and of disc k's peg. The test is shifted to its place: no branch on a peg.
@@ -15,7 +15,7 @@ pub fn gather_discs(position: &[u8], k: usize, target: u8) -> u64
     }
     let below = k - 1;
     let at = position[below];
-    let next = board::peg::third(target, at);
+    let next = board::third(target, at);
     let rest = gather_discs(position, below, next);
     rest + (((at != target) as u64) << below)
 }

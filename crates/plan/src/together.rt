@@ -3,10 +3,11 @@
 ghost use mathlib.Core.Path.{_≡_};
 ghost use Prim.Native.Nat.{_<_};
 ghost use Rattle.board.specs.Peg.{third as thirdOf};
-ghost use Rattle.plan.specs.Sound.{Together};
-ghost use Rattle.plan.specs.Together.{together};
+ghost use Rattle.plan.specs.Inner.Sound.{Together};
+ghost use Rattle.plan.specs.Inner.Together.{together};
+use board::LIMIT;
 
-// The third peg of i and j, as `board::peg::third`, on wide numbers.
+// The third peg of i and j, as `board::third`, on wide numbers.
 fn third(i: u64, j: u64) -> u64
     requires { ⌜ (i < 3) × (j < 3) ⌝ }
     ensures { λ r. ⌜ r ≡ thirdOf i j ⌝ }
@@ -17,8 +18,8 @@ fn third(i: u64, j: u64) -> u64
 // Follows four targets from disc k downwards: those of the start and of the goal in the direct plan, then in the detour. A plan's sum
 // doubles with each disc, and gains one for each of the two positions where the disc is not on its target.
 pub fn gather_together(
-    start: &[u8; 60],
-    goal: &[u8; 60],
+    start: &[u8; LIMIT],
+    goal: &[u8; LIMIT],
     k: usize,
     start_direct: u64,
     goal_direct: u64,

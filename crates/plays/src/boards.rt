@@ -1,10 +1,10 @@
 // Document 01's two boards on marks.
 use crate::say;
-use session::begin::begin;
+use session::begin;
 
 // Makes the first play of a task, and writes its mark.
 fn first(name: &[u8], task: &[u8], from: u8, to: u8) {
-    io::write_all(1, name);
+    show::text(name);
     let begun = begin(task);
     let session = begun.session;
     say::play(session, from, to);

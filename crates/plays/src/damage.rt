@@ -1,13 +1,13 @@
 // Records that no list of plays leaves: Play and Report refuse them, and Play leaves them as they were.
 use crate::say;
-use session::begin::begin;
-use session::lend::play_on;
-use session::record::Session;
+use session::Session;
+use session::begin;
+use session::play_on;
 
 // A play that is legal where the record is sound, and a report.
 fn shown(name: &[u8], session: Session) {
-    io::write_all(1, name);
-    io::write_all(1, b"\n");
+    show::text(name);
+    show::text(b"\n");
     say::play(session, 0, 1);
     say::report(session);
 }
@@ -34,28 +34,28 @@ fn numbers(session: Session) {
     n.n = 61;
     shown(b"n is 61", n);
     let mut made = session;
-    made.made = 2;
+    made.counts.made = 2;
     shown(b"made is one more", made);
     let mut toward = session;
-    toward.toward = 2;
+    toward.counts.toward = 2;
     shown(b"toward is one more", toward);
     let mut level = session;
-    level.level = 1;
+    level.counts.level = 1;
     shown(b"level is one more", level);
     let mut away = session;
-    away.away = 1;
+    away.counts.away = 1;
     shown(b"away is one more", away);
 }
 
 // Counts that add up, and yet no plays lead to them: one toward too many for the position, and more plays than a record counts.
 fn sums(session: Session) {
     let mut toward = session;
-    toward.made = 2;
-    toward.toward = 2;
+    toward.counts.made = 2;
+    toward.counts.toward = 2;
     shown(b"made and toward are one more", toward);
     let mut made = session;
-    made.made = 1000001;
-    made.level = 1000000;
+    made.counts.made = 1000001;
+    made.counts.level = 1000000;
     shown(b"made is 1000001 and level is 1000000", made);
 }
 

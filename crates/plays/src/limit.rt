@@ -1,8 +1,8 @@
 // The most plays that a record counts: 1,000,000.
 use crate::say;
-use session::begin::begin;
-use session::lend::play_on;
-use session::record::Session;
+use session::Session;
+use session::begin;
+use session::play_on;
 
 // A to B, B to C, C to A.
 fn next_peg(peg: u8) -> u8 {
@@ -27,7 +27,7 @@ fn played_out(session: Session) -> Session {
 // One disc from A to B. Round the pegs a play is toward, away and level in turn, so 1,000,000 plays are 333,334 toward, and 333,333 each
 // of the others, and they end on B. No play is taken after them, and the report stays.
 pub fn plays() {
-    io::write_all(1, b"after 1000000 plays on [0] to [1]\n");
+    show::text(b"after 1000000 plays on [0] to [1]\n");
     let begun = begin(b"\x00\x01");
     let after = played_out(begun.session);
     say::report(after);

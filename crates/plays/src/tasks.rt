@@ -1,22 +1,16 @@
 // Tasks that Begin takes, and tasks that it refuses.
-use crate::say;
-use board::refusal::Verdict;
-use session::begin::begin;
+use session::begin;
+use show::text;
 
 // Writes Begin's verdict on a task.
 fn verdict(name: &[u8], task: &[u8]) {
-    io::write_all(1, b"begin on ");
-    io::write_all(1, name);
-    io::write_all(1, b": ");
+    text(b"begin on ");
+    text(name);
+    text(b": ");
     let begun = begin(task);
     let found = begun.verdict;
-    match found {
-        Verdict::Refused(why) => say::refused(why),
-        Verdict::Accepted => {
-            io::write_all(1, b"accepted");
-        }
-    }
-    io::write_all(1, b"\n");
+    show::verdict(found);
+    text(b"\n");
 }
 
 // The longest task, and one byte more, two bytes more, and a byte that is no peg.

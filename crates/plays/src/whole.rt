@@ -1,9 +1,9 @@
 // A session along a whole shortest route, with refused plays in between, and one play past the goal.
 use crate::same::same_record;
 use crate::say;
-use session::begin::begin;
-use session::record::Session;
-use session::replay::replay;
+use session::Session;
+use session::begin;
+use session::replay;
 
 // The plays on [1, 0] to [0, 1]: BC, AB and CA, and between them a peg above 2, a from that equals the to, a larger disc onto a smaller
 // one and an empty peg.
@@ -23,15 +23,15 @@ fn replayed(session: Session, after: Session) {
         b"\x03\x00\x00\x03\x01\x02\x00\x00\x00\x02\x00\x01\x00\x02\x02\x00\x01",
     );
     if same_record(all, after) {
-        io::write_all(1, b"replayed: the same record\n");
+        show::text(b"replayed: the same record\n");
     } else {
-        io::write_all(1, b"replayed: another record\n");
+        show::text(b"replayed: another record\n");
     }
 }
 
 // The whole route, its report, and a play past the goal.
 pub fn route() {
-    io::write_all(1, b"a session on [1, 0] to [0, 1]\n");
+    show::text(b"a session on [1, 0] to [0, 1]\n");
     let begun = begin(b"\x01\x00\x00\x01");
     let first = begun.session;
     say::report(first);

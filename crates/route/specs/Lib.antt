@@ -1,7 +1,10 @@
--- The routes of a task, in the order of document 01, and what the code keeps to find them quickly.
+-- The routes of a task, in the order of document 01: words to be believed.
 pub mod Route
 pub mod Answer
-pub mod Reply
-pub mod Along
-pub mod Stage
-pub mod Aim
+pub mod Faults
+pub mod Boards
+-- What demands 2 and 3 say of the calls.
+pub mod Ours
+pub mod Demand2
+-- What our own functions promise each other.
+pub mod Inner

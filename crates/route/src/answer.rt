@@ -1,5 +1,5 @@
 // What Move, Place, Run and Locate answer.
-use board::refusal::Refusal;
+use board::Refusal;
 
 // A move of a route: the disc, the peg it leaves and the peg it goes to.
 pub struct DiscMove {

@@ -3,10 +3,10 @@ ghost use mathlib.Core.Path.{_≡_};
 ghost use Prim.Native.Nat.{_<_, _≤_};
 ghost use Rattle.board.specs.Task.{limit};
 ghost use Rattle.plan.specs.Plan.{planOf};
-ghost use Rattle.plan.specs.Sound.{Ends};
-ghost use Rattle.route.specs.Stage.{isDetour, firstPeg, firstStop, lastPeg, courseOf, afterFirst, stageOf};
-use plan::answer::Plan;
-use plan::answer::Way;
+ghost use Rattle.plan.specs.Inner.Sound.{Ends};
+ghost use Rattle.route.specs.Inner.Stage.{isDetour, firstPeg, firstStop, lastPeg, courseOf, afterFirst, stageOf};
+use plan::Plan;
+use plan::Way;
 
 // Disc `disc` + 1 crosses from `from` to `to`, directly or by way of `free`, after `first` moves of gathering.
 pub struct Course {
@@ -51,7 +51,7 @@ impl Course {
             disc,
             from: plan.from,
             to: plan.to,
-            free: board::peg::third(plan.from, plan.to),
+            free: board::third(plan.from, plan.to),
             detour: is_detour(way, route),
             first: 0,
         };

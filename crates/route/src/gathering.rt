@@ -3,10 +3,11 @@ ghost use mathlib.Core.Path.{_≡_};
 ghost use Prim.Native.Nat.{_+_, _<_};
 ghost use lib.ListN.{length};
 ghost use Rattle.board.specs.Position.{peg as pegOf};
-ghost use Rattle.plan.specs.Sound.{Gatherable};
-ghost use Rattle.route.specs.Along.{stacked, Along, Passes};
+ghost use Rattle.plan.specs.Inner.Sound.{Gatherable};
+ghost use Rattle.route.specs.Inner.Along.{stacked, Along, Passes};
 ghost use Rattle.route.specs.Route.{gathering as gatheringOf, moveAt};
 use crate::answer::DiscMove;
+use board::LIMIT;
 
 // Where a disc is, and what is left of the gathering for the smaller ones: their target, the moves left, and the peg on which they
 // are a tower, or 3 where they start as in the position.
@@ -32,7 +33,7 @@ fn pass(position: &[u8], k: usize, goal: u8, rest: u64, tower: u8) -> Passed
     ensures { λ r. ⌜ Passes (now (position .entry)) k goal rest tower r ⌝ }
 {
     let at = peg_of(position, k, tower);
-    let next = board::peg::third(goal, at);
+    let next = board::third(goal, at);
     let last = plan::tower::length(k) + 1;
     if at == goal {
         return Passed {
@@ -59,11 +60,11 @@ fn pass(position: &[u8], k: usize, goal: u8, rest: u64, tower: u8) -> Passed
 }
 
 // The pegs of the k smallest discs when so many moves of their gathering on a target are left.
-pub fn pegs_along(position: &[u8], k: usize, target: u8, left: u64) -> [u8; 60]
+pub fn pegs_along(position: &[u8], k: usize, target: u8, left: u64) -> [u8; LIMIT]
     requires { ⌜ Gatherable (now position) k target ⌝ }
     ensures { λ r. ⌜ Along (now (position .entry)) k target left r ⌝ }
 {
-    let mut pegs: [u8; 60] = [0; 60];
+    let mut pegs: [u8; LIMIT] = [0; LIMIT];
     let mut goal = target;
     let mut rest = left;
     let mut tower: u8 = 3;
@@ -95,7 +96,7 @@ pub fn first_move(position: &[u8], k: usize, target: u8) -> DiscMove
     while 0 < m {
         m -= 1;
         let at = position[m];
-        let next = board::peg::third(goal, at);
+        let next = board::third(goal, at);
         if at != goal {
             first = DiscMove {
                 disc: m + 1,

@@ -2,16 +2,17 @@
 ghost use mathlib.Core.Path.{_≡_};
 ghost use Prim.Native.Nat.{_<_};
 ghost use Rattle.plan.specs.Plan.{planOf, routes, shortest};
-ghost use Rattle.plan.specs.Sound.{Ends};
-ghost use Rattle.route.specs.Answer.{moveAnswer};
+ghost use Rattle.plan.specs.Inner.Sound.{Ends};
+ghost use Rattle.route.specs.Answer.{moveReply, moveAnswer};
 ghost use Rattle.route.specs.Route.{routeOf, moveAt};
 use crate::answer::DiscMove;
 use crate::answer::Moving;
 use crate::course::Course;
+use crate::opening::open_route;
 use crate::stage;
-use board::refusal::Refusal;
-use plan::answer::Plan;
-use plan::answer::Planned;
+use board::Refusal;
+use plan::Plan;
+use plan::Planned;
 
 // The move of a route at an index below its length.
 fn route_move(start: &[u8], goal: &[u8], p: Plan, route: u64, index: u64) -> DiscMove
@@ -26,14 +27,11 @@ fn route_move(start: &[u8], goal: &[u8], p: Plan, route: u64, index: u64) -> Dis
 
 // Move: the move of a shortest route at an index. Refuses with the task faults, 4 and 5.
 pub fn move_at(task: &[u8], route: u64, index: u64) -> Moving
-    ensures { λ r. ⌜ r ≡ moveAnswer (now (task .entry)) route index ⌝ }
+    ensures { λ r. ⌜ moveReply r ≡ moveAnswer (now (task .entry)) route index ⌝ }
 {
-    match plan::plan(task) {
+    match open_route(task, route) {
         Planned::Refused(why) => Moving::Refused(why),
         Planned::Plan(p) => {
-            if p.routes() <= route {
-                return Moving::Refused(Refusal::NoSuchRoute);
-            }
             if p.shortest() <= index {
                 return Moving::Refused(Refusal::NoSuchIndex);
             }

@@ -6,13 +6,14 @@ ghost use lib.Dec.{ltb};
 ghost use mathlib.Core.Bool.{cond};
 ghost use Rattle.board.specs.Position.{peg};
 ghost use Rattle.board.specs.Task.{limit};
-ghost use Rattle.plan.specs.Sound.{Ends, Gatherable};
-ghost use Rattle.route.specs.Along.{along};
-ghost use Rattle.route.specs.Stage.{CourseFits, StageFits, firstOf, stageMove, stagePeg};
+ghost use Rattle.plan.specs.Inner.Sound.{Ends, Gatherable};
+ghost use Rattle.route.specs.Inner.Along.{along};
+ghost use Rattle.route.specs.Inner.Stage.{CourseFits, StageFits, firstOf, stageMove, stagePeg};
 use crate::answer::DiscMove;
 use crate::course::Course;
 use crate::course::Stage;
 use crate::gathering;
+use board::LIMIT;
 
 // The first move with so many moves of a gathering left.
 fn move_along(position: &[u8], k: usize, target: u8, left: u64) -> DiscMove
@@ -50,7 +51,7 @@ pub fn stage_move(start: &[u8], goal: &[u8], course: Course, stage: Stage) -> Di
                     to: course.to,
                 };
             }
-            let tower = [course.to; 60];
+            let tower = [course.to; LIMIT];
             move_along(&tower, k, course.from, left)
         }
         Stage::Spreading(done) => {
@@ -65,7 +66,7 @@ pub fn stage_move(start: &[u8], goal: &[u8], course: Course, stage: Stage) -> Di
 }
 
 // An array whose bytes from k on are those of a position.
-pub fn with_larger(pegs: [u8; 60], position: &[u8], k: usize) -> [u8; 60]
+pub fn with_larger(pegs: [u8; LIMIT], position: &[u8], k: usize) -> [u8; LIMIT]
     requires { ⌜ length (now position) ≤ limit ⌝ }
     ensures { λ r. ⌜ ((d : ℕ) → d < length (now (position .entry)) → getD r d 0 ≡ cond (ltb d k) (getD pegs d 0) (peg (now (position .entry)) d)) ⌝ }
 {
@@ -79,7 +80,7 @@ pub fn with_larger(pegs: [u8; 60], position: &[u8], k: usize) -> [u8; 60]
 }
 
 // The peg of each disc at a stage.
-pub fn stage_pegs(start: &[u8], goal: &[u8], course: Course, stage: Stage) -> [u8; 60]
+pub fn stage_pegs(start: &[u8], goal: &[u8], course: Course, stage: Stage) -> [u8; LIMIT]
     requires { ⌜ Ends (now start) (now goal) ⌝ }
     requires { ⌜ CourseFits course (length (now start)) ⌝ }
     ensures { λ r. ⌜ ((d : ℕ) → d < length (now (start .entry)) → getD r d 0 ≡ stagePeg (peg (now (start .entry))) (peg (now (goal .entry))) course stage d) ⌝ }
@@ -91,7 +92,7 @@ pub fn stage_pegs(start: &[u8], goal: &[u8], course: Course, stage: Stage) -> [u
             with_larger(pegs, start, k)
         }
         Stage::Shifting(left) => {
-            let tower = [course.to; 60];
+            let tower = [course.to; LIMIT];
             let mut pegs = with_larger(
                 gathering::pegs_along(&tower, k, course.from, left),
                 start,

@@ -15,27 +15,27 @@ use Rattle.plan.specs.Gather.{gather}
 use Rattle.board.specs.Position.{peg}
 use Rattle.board.proofs.Formed.{formed-pegs}
 use Rattle.plan.specs.Plan.{direct, detour, largest, lengthsOf, planOf, shortest}
-use Rattle.plan.specs.Sound.{Ends}
+use Rattle.plan.specs.Inner.Sound.{Ends}
 use Rattle.plan.specs.Tower.{towerLength}
-use Rattle.plan.specs.Three.{Three}
+use Rattle.plan.specs.Inner.Three.{Three}
 use Rattle.plan.proofs.Three.{three, three-third, three-swap, three-turn, three-flip}
 use Rattle.plan.proofs.Gathering.{Pegs, gather-shift}
 use Rattle.plan.proofs.Largest.{largest-stays}
-use Rattle.route.specs.Along.{along}
+use Rattle.route.specs.Inner.Along.{along}
 use Rattle.route.specs.Route.{carry, gathering, spreading, directRoute, detourRoute, routeOf, after}
-use Rattle.route.specs.Stage.{courseBy, courseOf, afterFirst, stageOf, stagePeg}
+use Rattle.route.specs.Inner.Stage.{courseBy, courseOf, afterFirst, stageOf, stagePeg}
 use Rattle.route.specs.declared.answer.DiscMove.{DiscMove}
-use Rattle.route.proofs.AlongLaws.{along-above}
-use Rattle.route.proofs.Found.{course-is, route-place, moves-some}
-use Rattle.route.proofs.Gathered.{gathering-cong, gathering-length}
-use Rattle.route.proofs.Middle.{middle}
-use Rattle.route.proofs.SpreadMiddle.{spreading-middle}
-use Rattle.route.proofs.Stages.{straight, roundabout, stage-first, stage-later}
-use Rattle.route.proofs.Shortest.{goes-direct, goes-round, way-route}
-use Rattle.route.proofs.View.{none, some, largest-view, plan-still, plan-moving, route-moving}
-use Rattle.route.proofs.Unique.{direct-is, detour-is, direct-sum, detour-sum}
-use Rattle.run.specs.Ready.{aside, legRest, legMoves}
-use Rattle.run.specs.Start.{startLeg}
+use Rattle.route.proofs.Along.Along.{along-above}
+use Rattle.route.proofs.Courses.Found.{course-is, route-place, moves-some}
+use Rattle.route.proofs.Gatherings.Gathering.{gathering-cong, gathering-length}
+use Rattle.route.proofs.Along.Middle.{middle}
+use Rattle.route.proofs.Along.Spread.{spreading-middle}
+use Rattle.route.proofs.Courses.Stages.{straight, roundabout, stage-first, stage-later}
+use Rattle.route.proofs.Shortest.Routes.{goes-direct, goes-round, way-route}
+use Rattle.route.proofs.Shortest.View.{none, some, largest-view, plan-still, plan-moving, route-moving}
+use Rattle.route.proofs.Shortest.Unique.{direct-is, detour-is, direct-sum, detour-sum}
+use Rattle.run.specs.Inner.Ready.{aside, legRest, legMoves}
+use Rattle.run.specs.Inner.Start.{startLeg}
 use Rattle.run.specs.declared.stepper.Leg.{Leg}
 
 -- The moves ms are those of the leg l, from the pegs u, to the goal q.

@@ -16,22 +16,22 @@ use Rattle.board.proofs.Formed.{formed-pegs}
 use Rattle.board.proofs.Top.{length-moved}
 use Rattle.plan.specs.Gather.{gather}
 use Rattle.plan.specs.Tower.{towerLength}
-use Rattle.plan.specs.Three.{Three}
+use Rattle.plan.specs.Inner.Three.{Three}
 use Rattle.plan.proofs.Three.{three, three-third, three-turn, compare-pegs, each-peg}
 use Rattle.plan.proofs.Gathering.{Pegs, Tower, gather-shift, gathered-tower}
 use Rattle.plan.proofs.Step.{Step, put, put-same, put-other, step-largest}
 use Rattle.plan.proofs.Moves.{formed-moved, stepMove, step-top, step-legal, step-moved}
 use Rattle.route.specs.Route.{plain, spreading}
 use Rattle.route.specs.declared.answer.DiscMove.{DiscMove}
-use Rattle.route.proofs.Gathered.{gathering-cong, gathering-done, gathering-first, stepCarry}
-use Rattle.route.proofs.Spreading.{spreading-none, spreading-home, spreading-away}
-use Rattle.route.proofs.Walk.{step-grow}
-use Rattle.route.proofs.Lowering.{lower-first}
-use Rattle.route.specs.Aim.{aim}
-use Rattle.route.proofs.Aim.{aim-peg, aim-parity, aim-less, aim-other, aim-tower, aim-after, small-step}
-use Rattle.run.specs.Pegs.{Holds, shifted}
-use Rattle.run.specs.Ready.{aside, legRest, legMove, legMoves, Ready}
-use Rattle.run.specs.Stepper.{topOf, second, last, smallTurn, otherFrom, otherTo, otherTurn, spreadLeg, nextLeg, towerAim, legTurn, Stepped, made, legStep, gatherStep, stepOf}
+use Rattle.route.proofs.Gatherings.Gathering.{gathering-cong, gathering-done, gathering-first, stepCarry}
+use Rattle.route.proofs.Gatherings.Spreading.{spreading-none, spreading-home, spreading-away}
+use Rattle.route.proofs.Walks.Walk.{step-grow}
+use Rattle.route.proofs.Shortest.Lowering.{lower-first}
+use Rattle.route.specs.Inner.Aim.{aim}
+use Rattle.route.proofs.Gatherings.Aim.{aim-peg, aim-parity, aim-less, aim-other, aim-tower, aim-after, small-step}
+use Rattle.run.specs.Inner.Pegs.{Holds, shifted}
+use Rattle.run.specs.Inner.Ready.{aside, legRest, legMove, legMoves, Ready}
+use Rattle.run.specs.Inner.Stepper.{topOf, second, last, smallTurn, otherFrom, otherTo, otherTurn, spreadLeg, nextLeg, towerAim, legTurn, Advance, made, legStep, gatherStep, advance}
 use Rattle.run.specs.declared.pegs.Pegs as pegs
 use Rattle.run.specs.declared.stepper.Leg.{Leg}
 use Rattle.run.specs.declared.stepper.Stepper.{Stepper}
@@ -39,7 +39,7 @@ use Rattle.run.proofs.Held.{holds-shifted}
 use Rattle.run.proofs.Steps.{gather-small, gather-other, step-leg, step-gather}
 
 -- The stepper makes the move m, which is legal, and is then ready for the moves after it.
-pub record Follows (t : Stepped) (p : List ℕ) (q : ℕ → ℕ) (m : DiscMove) (ms : List DiscMove) : Type 0 where
+pub record Follows (t : Advance) (p : List ℕ) (q : ℕ → ℕ) (m : DiscMove) (ms : List DiscMove) : Type 0 where
   pub from : t .from ≡ m .from
   pub to : t .to ≡ m .to
   pub legal : Legal p (plain m)
@@ -74,7 +74,7 @@ ahead-ready {s} {n} {u} {q} {ms} p held formed size same a =
 
 -- A step of the discs is what the stepper makes of the first move, if it names its pegs and then stands where the step leads.
 step-follows : {s : Stepper} {p : List ℕ} {q v : ℕ → ℕ} {m : DiscMove} {ms : List DiscMove} {k : ℕ} → Ready s p q (m ∷ ms) → k ≤ length p
-    → (st : Step k (peg p) v) (t : Stepped) → m ≡ stepCarry st → t .from ≡ peg p (st .disc) → t .to ≡ v (st .disc)
+    → (st : Step k (peg p) v) (t : Advance) → m ≡ stepCarry st → t .from ≡ peg p (st .disc) → t .to ≡ v (st .disc)
     → t .stepper .pegs ≡ shifted (s .pegs) (t .from) (t .to) → (0 < length ms → Ahead (t .stepper) (length p) v q ms) → Follows t p q m ms
 step-follows {s} {p} {q} {v} r h st t em ef et ep after =
     let legal = step-legal p v (step-grow h st) in
@@ -89,7 +89,7 @@ step-follows {s} {p} {q} {v} r h st t em ef et ep after =
     })
 
 -- The stepper makes a move from i to j within its leg.
-abbrev within : Stepper → (i j small aim : ℕ) → Stepped
+abbrev within : Stepper → (i j small aim : ℕ) → Advance
 within s i j small aim =
     made s (record { from = i; to = j; turn = record { small = small; aim = aim; left = s .turn .left - 1 } }) (s .leg)
 
@@ -321,7 +321,7 @@ gather-follows s p q m ms r n =
 
 -- The stepper makes the route's next move, and is ready for the moves after it.
 pub ready-step : (s : Stepper) (p : List ℕ) (q : ℕ → ℕ) (m : DiscMove) (ms : List DiscMove) → Pegs q → Ready s p q (m ∷ ms)
-    → Follows (stepOf s q) p q m ms
+    → Follows (advance s q) p q m ms
 ready-step s p q m ms hq r =
     elim (ℕ-discrete (s .turn .left) 0) [
       | yes e ↦ rw (step-leg s q e) (leg-follows s p q m ms hq r e)

@@ -10,10 +10,10 @@ use lib.ListN.{length, drop, set, length-append}
 use lib.Seq.{sets}
 use Rattle.board.specs.Position.{peg}
 use Rattle.route.specs.Answer.{letter}
-use Rattle.run.specs.Gatherer.{Gatherer, gatherer, gatherMove, gatherNext, gathersFrom, gatherLetters, Gathers}
-use Rattle.run.specs.Pegs.{arrays, shifted}
-use Rattle.run.specs.Stepper.{smallTurn, otherTurn, gatherTurn, Stepped, stepOf, Safe}
-use Rattle.run.specs.Written.{stepsFrom, stepLetters}
+use Rattle.run.specs.Inner.Gatherer.{Gatherer, gatherer, gatherMove, gatherNext, gathersFrom, gatherLetters, Gathers}
+use Rattle.run.specs.Inner.Pegs.{arrays, shifted}
+use Rattle.run.specs.Inner.Stepper.{smallTurn, otherTurn, gatherTurn, Advance, advance, Safe}
+use Rattle.run.specs.Inner.Written.{stepsFrom, stepLetters}
 use Rattle.run.specs.declared.pegs.Pegs.{Pegs}
 use Rattle.run.specs.declared.stepper.Leg.{Leg}
 use Rattle.run.specs.declared.stepper.Step.{Step}
@@ -54,8 +54,8 @@ module _ (s : Stepper) (q : ℕ → ℕ) where
   steps-gather zero h = refl
   steps-gather (suc i) h =
       let some : gathersFrom (gathererOf s) i .turn .left ≢ 0 = omega (arith, left-after (gathererOf s) i) in
-      ap (λ (t : Stepper). stepOf t q .stepper) (steps-gather i (omega arith))
-      ∙ ap (λ (m : Stepped). m .stepper) (step-gather (inLeg (s .leg) (gathersFrom (gathererOf s) i)) q some)
+      ap (λ (t : Stepper). advance t q .stepper) (steps-gather i (omega arith))
+      ∙ ap (λ (m : Advance). m .stepper) (step-gather (inLeg (s .leg) (gathersFrom (gathererOf s) i)) q some)
 
   -- And their letters are its letters.
   pub letters-gather : (i : ℕ) → i ≤ s .turn .left → stepLetters s q i ≡ gatherLetters (gathererOf s) i
@@ -70,7 +70,7 @@ module _ (s : Stepper) (q : ℕ → ℕ) where
   pub steps-add : (i m : ℕ) → stepsFrom s q (i + m) ≡ stepsFrom (stepsFrom s q i) q m
   unfolding stepsFrom
   steps-add i zero = rw add-zero
-  steps-add i (suc m) = rw add-suc (ap (λ (t : Stepper). stepOf t q .stepper) (steps-add i m))
+  steps-add i (suc m) = rw add-suc (ap (λ (t : Stepper). advance t q .stepper) (steps-add i m))
 
   -- The letters of i + m moves are those of i and then those of m.
   pub letters-add : (i m : ℕ) → stepLetters s q (i + m) ≡ stepLetters s q i ++ stepLetters (stepsFrom s q i) q m

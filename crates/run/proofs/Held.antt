@@ -10,7 +10,7 @@ use lib.Seq.{lt-length-set, drop-cons, drop-length, drop-set-lt, getD-set-same, 
 use Rattle.board.specs.Position.{peg}
 use Rattle.board.specs.Move.{Move, Legal, top, moved}
 use Rattle.board.proofs.Top.{top-here, top-there, top-on, top-before, top-at, length-moved, moved-disc, moved-others}
-use Rattle.run.specs.Pegs.{beneath, Holds, shifted}
+use Rattle.run.specs.Inner.Pegs.{beneath, Holds, shifted}
 use Rattle.run.specs.declared.pegs.Pegs.{Pegs}
 
 -- A list has an element wherever it does not read 0.

@@ -7,8 +7,8 @@ use native.Mathlib.Omega.{arith}
 use lib.ListN.{length, drop, set, length-append, length-drop}
 use lib.Seq.{take-at, drop-append-add, drop-drop, sets, sets-eq}
 use Rattle.route.specs.Answer.{letter}
-use Rattle.run.specs.Stepper.{Stepped, stepOf}
-use Rattle.run.specs.Written.{stepsFrom, stepLetters}
+use Rattle.run.specs.Inner.Stepper.{Advance, advance}
+use Rattle.run.specs.Inner.Written.{stepsFrom, stepLetters}
 use Rattle.run.specs.declared.stepper.Stepper.{Stepper}
 
 -- Before the first move the buffer is as it was.
@@ -17,24 +17,24 @@ unfolding stepLetters
 begin s q o = refl
 
 -- The moves after the first are those of the stepper after it.
-pub stepsFrom-next : (s : Stepper) (q : ℕ → ℕ) (i : ℕ) → stepsFrom (stepOf s q .stepper) q i ≡ stepsFrom s q (suc i)
+pub stepsFrom-next : (s : Stepper) (q : ℕ → ℕ) (i : ℕ) → stepsFrom (advance s q .stepper) q i ≡ stepsFrom s q (suc i)
 unfolding stepsFrom
 stepsFrom-next s q zero = refl
-stepsFrom-next s q (suc i) = ap (λ (t : Stepper). stepOf t q .stepper) (stepsFrom-next s q i)
+stepsFrom-next s q (suc i) = ap (λ (t : Stepper). advance t q .stepper) (stepsFrom-next s q i)
 
 -- One move more has two letters more, at the end.
 pub letters-more : (s : Stepper) (q : ℕ → ℕ) (i : ℕ) →
-    let m = stepOf (stepsFrom s q i) q in
+    let m = advance (stepsFrom s q i) q in
     stepLetters s q (suc i) ≡ stepLetters s q i ++ (letter (m .from) ∷ letter (m .to) ∷ [])
 unfolding stepLetters stepsFrom
 letters-more s q zero = refl
-letters-more s q (suc i) = cc (letters-more (stepOf s q .stepper) q i, stepsFrom-next s q i)
+letters-more s q (suc i) = cc (letters-more (advance s q .stepper) q i, stepsFrom-next s q i)
 
 -- Each move has two letters.
 pub letters-length : (s : Stepper) (q : ℕ → ℕ) (i : ℕ) → length (stepLetters s q i) ≡ 2 * i
 unfolding stepLetters
 letters-length s q zero = refl
-letters-length s q (suc i) = omega (arith, letters-length (stepOf s q .stepper) q i)
+letters-length s q (suc i) = omega (arith, letters-length (advance s q .stepper) q i)
 
 -- What is stored right after a run of stores is stored with it.
 pub sets-append : (l : List ℕ) (n : ℕ) (xs ys : List ℕ) → sets l n (xs ++ ys) ≡ sets (sets l n xs) (n + length xs) ys
@@ -52,7 +52,7 @@ stored xs vs o n e h =
     sets-eq vs (xs ++ drop n o) n (omega (arith, length-append xs (drop n o), length-drop n o)) ∙ rw (take-at xs _ n e, rest)
 
 -- The next move, m, is written.
-pub go : (s : Stepper) (q : ℕ → ℕ) (i : ℕ) (o : List ℕ) {m : Stepped} → 2 * suc i ≤ length o → m ≡ stepOf (stepsFrom s q i) q
+pub go : (s : Stepper) (q : ℕ → ℕ) (i : ℕ) (o : List ℕ) {m : Advance} → 2 * suc i ≤ length o → m ≡ advance (stepsFrom s q i) q
     → set (set (stepLetters s q i ++ drop (2 * i) o) (2 * i) (letter (m .from))) (suc (2 * i)) (letter (m .to))
     ≡ stepLetters s q (suc i) ++ drop (2 * suc i) o
 go s q i o {m} h next =

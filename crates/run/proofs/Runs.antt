@@ -7,19 +7,18 @@ use lib.ListN.{length, take, drop}
 use Rattle.board.specs.Position.{peg, WellFormed}
 use Rattle.board.specs.Move.{moved}
 use Rattle.board.specs.Task.{limit}
-use Rattle.board.specs.declared.refusal.Verdict.the-variants.{Accepted}
 use Rattle.board.proofs.Formed.{formed-pegs}
 use Rattle.board.proofs.Top.{top-at, length-moved}
 use Rattle.plan.proofs.Gathering.{Pegs}
-use Rattle.route.specs.Answer.{letters, written}
+use Rattle.route.specs.Answer.{letters}
 use Rattle.route.specs.Route.{plain}
 use Rattle.route.specs.declared.answer.DiscMove.{DiscMove}
-use Rattle.run.specs.Ready.{Ready}
-use Rattle.run.specs.Stepper.{topOf, stepOf, Safe}
-use Rattle.run.specs.Written.{stepsFrom, stepLetters}
+use Rattle.run.specs.Inner.Ready.{Ready}
+use Rattle.run.specs.Inner.Stepper.{topOf, advance, Safe}
+use Rattle.run.specs.Inner.Written.{stepsFrom, stepLetters}
 use Rattle.run.specs.declared.stepper.Stepper.{Stepper}
 use Rattle.run.proofs.Follows.{ready-step}
-use Rattle.run.proofs.Letters.{stepsFrom-next, letters-length}
+use Rattle.run.proofs.Letters.{stepsFrom-next}
 
 -- The letters of a ready stepper are those of the moves ahead.
 pub ready-letters : (s : Stepper) (p : List ℕ) (q : ℕ → ℕ) (ms : List DiscMove) (k : ℕ) → Pegs q → (0 < k → Ready s p q ms) → k ≤ length ms
@@ -29,13 +28,13 @@ ready-letters s p q ms zero hq r h = refl
 ready-letters s p q [] (suc k) hq r h = absurd (omega arith)
 ready-letters s p q (m ∷ ms) (suc k) hq r h =
     let f = ready-step s p q m ms hq (r (omega arith)) in
-    let rest = ready-letters (stepOf s q .stepper) (moved p (plain m)) q ms k hq (λ more. f .next (omega arith)) (omega arith) in
+    let rest = ready-letters (advance s q .stepper) (moved p (plain m)) q ms k hq (λ more. f .next (omega arith)) (omega arith) in
     rw (f .from, f .to, rest)
 
 -- With them a buffer is what Run leaves of it.
 pub ready-written : (s : Stepper) (p : List ℕ) (q : ℕ → ℕ) (ms : List DiscMove) (k : ℕ) (o : List ℕ) → Pegs q → (0 < k → Ready s p q ms)
-    → k ≤ length ms → stepLetters s q k ++ drop (2 * k) o ≡ written Accepted (letters (take k ms)) o
-ready-written s p q ms k o hq r h = rw (← ready-letters s p q ms k hq r h, letters-length s q k)
+    → k ≤ length ms → stepLetters s q k ++ drop (2 * k) o ≡ letters (take k ms) ++ drop (2 * k) o
+ready-written s p q ms k o hq r h = rw (ready-letters s p q ms k hq r h)
 
 -- Disc 1 is on top of its peg.
 disc-one : {s : Stepper} {p : List ℕ} {q : ℕ → ℕ} {ms : List DiscMove} → Ready s p q ms → topOf s (s .turn .small) ≡ 1
@@ -70,4 +69,4 @@ ready-safe s p g (m ∷ ms) r size within formed zero h = safe-now s p g m ms r 
 ready-safe s p g (m ∷ ms) r size within formed (suc i) h =
     let f = ready-step s p (peg g) m ms (formed-pegs g formed) r in
     rw (← stepsFrom-next s (peg g) i)
-    (ready-safe (stepOf s (peg g) .stepper) (moved p (plain m)) g ms (f .next (omega arith)) (length-moved p (plain m) ∙ size) within formed i (omega arith))
+    (ready-safe (advance s (peg g) .stepper) (moved p (plain m)) g ms (f .next (omega arith)) (length-moved p (plain m) ∙ size) within formed i (omega arith))

@@ -6,17 +6,17 @@ use native.Mathlib.Omega.{arith}
 use lib.ListN.{length, take, drop, length-drop}
 use Rattle.board.specs.Position.{peg, WellFormed}
 use Rattle.plan.specs.Plan.{largest, planOf, routes, shortest}
-use Rattle.plan.specs.Sound.{Ends}
+use Rattle.plan.specs.Inner.Sound.{Ends}
 use Rattle.route.specs.Route.{routeOf, after}
 use Rattle.route.specs.declared.answer.DiscMove.{DiscMove}
 use Rattle.route.specs.declared.course.Course.{Course}
 use Rattle.route.specs.declared.course.Stage.{Stage}
 use Rattle.route.specs.declared.course.Stage.the-variants.{Gathering, Shifting, Spreading}
-use Rattle.route.proofs.Locating.{route-between}
-use Rattle.route.proofs.Shortest.{route-leads}
-use Rattle.route.proofs.View.{none, some, largest-view}
-use Rattle.run.specs.Ready.{Ready}
-use Rattle.run.specs.Start.{startLeg, Spreads, Started}
+use Rattle.route.proofs.Calls.Locating.{route-between}
+use Rattle.route.proofs.Shortest.Routes.{route-leads}
+use Rattle.route.proofs.Shortest.View.{none, some, largest-view}
+use Rattle.run.specs.Inner.Ready.{Ready}
+use Rattle.run.specs.Inner.Start.{startLeg, Spreads, Started}
 use Rattle.run.specs.declared.stepper.Leg.{Leg}
 use Rattle.run.specs.declared.stepper.Stepper.{Stepper}
 use Rattle.run.proofs.Ahead.{Ahead}

@@ -11,8 +11,8 @@ use lib.ListN.{length}
 use Rattle.board.specs.Peg.{third}
 use Rattle.board.specs.Position.{peg}
 use Rattle.board.proofs.Pegs.{third-peg}
-use Rattle.run.specs.Pegs.{arrays, shifted}
-use Rattle.run.specs.Stepper.{discOn, second, last, smallTurn, otherFrom, otherTo, otherTurn, gatherTurn, spreadLeg, nextLeg, legTurn, Stepped, legStep, gatherStep, stepOf, Carries, Safe}
+use Rattle.run.specs.Inner.Pegs.{arrays, shifted}
+use Rattle.run.specs.Inner.Stepper.{discOn, second, last, smallTurn, otherFrom, otherTo, otherTurn, gatherTurn, spreadLeg, nextLeg, legTurn, Advance, legStep, gatherStep, advance, Carries, Safe}
 use Rattle.run.specs.declared.stepper.Leg.{Leg}
 use Rattle.run.specs.declared.stepper.Turn.{Turn}
 use Rattle.run.specs.declared.stepper.Stepper.{Stepper}
@@ -94,13 +94,13 @@ module _ (q : ℕ → ℕ) (pegs : (d : ℕ) → q d < 3) where
 
 module _ (s : Stepper) (q : ℕ → ℕ) where
   -- Nothing is left to gather.
-  pub step-leg : s .turn .left ≡ 0 → stepOf s q ≡ legStep s q
-  unfolding stepOf
+  pub step-leg : s .turn .left ≡ 0 → advance s q ≡ legStep s q
+  unfolding advance
   step-leg h = rw (eq-eqb _ _ h)
 
   -- Something is left.
-  pub step-gather : s .turn .left ≢ 0 → stepOf s q ≡ gatherStep s
-  unfolding stepOf
+  pub step-gather : s .turn .left ≢ 0 → advance s q ≡ gatherStep s
+  unfolding advance
   step-gather h = rw (ne-eqb _ _ h)
 
 module _ (s : Stepper) (g : List ℕ) (may : Safe s g) where
@@ -116,10 +116,10 @@ abbrev pub standing : List ℕ → List ℕ → Turn → Leg → Stepper
 standing t b u l = record { pegs = arrays t b; turn = u; leg = l }
 
 -- What a step leaves, with the arrays t and b after it, in the leg l.
-abbrev pub stepped : Step → List ℕ → List ℕ → Leg → Stepped
+abbrev pub stepped : Step → List ℕ → List ℕ → Leg → Advance
 stepped r t b l = record { from = r .from; to = r .to; stepper = standing t b (r .turn) l }
 
 module _ (s : Stepper) (q : ℕ → ℕ) (r : Step) {t b : List ℕ} (held : arrays t b ≡ shifted (s .pegs) (r .from) (r .to)) where
   -- The leg's own move, made in the arrays, is the stepper's next.
-  pub leg-made : {l : Leg} → s .turn .left ≡ 0 → l ≡ nextLeg (s .leg) q → r ≡ legTurn (s .turn) (s .leg) l → stepped r t b l ≡ stepOf s q
+  pub leg-made : {l : Leg} → s .turn .left ≡ 0 → l ≡ nextLeg (s .leg) q → r ≡ legTurn (s .turn) (s .leg) l → stepped r t b l ≡ advance s q
   leg-made none next is = rw (step-leg s q none, ← next, ← is, held)

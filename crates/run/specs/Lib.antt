@@ -1,7 +1,2 @@
--- What Run keeps between moves, its next move, and what it writes.
-pub mod Pegs
-pub mod Stepper
-pub mod Gatherer
-pub mod Written
-pub mod Ready
-pub mod Start
+-- What Run answers and writes is route's (specs/Answer: `runAnswer`, `runWrites`). What our own functions promise each other:
+pub mod Inner

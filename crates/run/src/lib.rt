@@ -1,34 +1,32 @@
 // Run (document 01): many moves of a shortest route at once, each without a fresh plan.
-pub mod pegs;
-pub mod start;
-pub mod stepper;
-pub mod write;
+mod pegs;
+mod start;
+mod stepper;
+mod write;
 
+ghost use mathlib.Core.List.{_++_};
 ghost use mathlib.Core.Path.{_≡_};
-ghost use Prim.Native.Nat.{_-_, _/_, _<_, _≤_, min};
+ghost use Prim.Native.Nat.{_*_, _-_, _/_, _<_, _≤_, min};
 ghost use lib.ListN.{length, take, drop};
-ghost use Rattle.board.specs.declared.refusal.Verdict.the-variants.{Accepted};
 ghost use Rattle.plan.specs.Plan.{planOf, routes, shortest};
-ghost use Rattle.plan.specs.Sound.{Ends};
-ghost use Rattle.route.specs.Answer.{letters, written, runAnswer, runWrites};
+ghost use Rattle.plan.specs.Inner.Sound.{Ends};
+ghost use Rattle.route.specs.Answer.{letters, runReply, runAnswer, runWrites};
 ghost use Rattle.route.specs.Route.{routeOf};
-use board::refusal::Refusal;
-use plan::answer::Plan;
-use plan::answer::Planned;
-use route::answer::Ran;
+use board::Refusal;
+use plan::Plan;
+use plan::Planned;
+use route::Ran;
+use route::opening::open_route;
 
 // Run: writes moves of a shortest route from an index on as letter pairs, as many as remain or fit, and answers how many. Refuses with
 // the task faults, 4, 5 and 6, and then writes nothing.
 pub fn run(task: &[u8], route: u64, first: u64, out: &mut [u8]) -> Ran
-    ensures { λ r. ⌜ r ≡ runAnswer (now (task .entry)) route first (now (out .entry)) ⌝ }
+    ensures { λ r. ⌜ runReply r ≡ runAnswer (now (task .entry)) route first (now (out .entry)) ⌝ }
     ensures { λ _. ⌜ now (out .exit) ≡ runWrites (now (task .entry)) route first (now (out .entry)) ⌝ }
 {
-    match plan::plan(task) {
+    match open_route(task, route) {
         Planned::Refused(why) => Ran::Refused(why),
         Planned::Plan(p) => {
-            if p.routes() <= route {
-                return Ran::Refused(Refusal::NoSuchRoute);
-            }
             let moves = p.shortest();
             if moves < first {
                 return Ran::Refused(Refusal::NoSuchIndex);
@@ -48,7 +46,7 @@ fn run_from(start: &[u8], goal: &[u8], p: Plan, route: u64, first: u64, out: &mu
     requires { ⌜ p ≡ planOf (now start) (now goal) ⌝ }
     requires { ⌜ (route < routes p) × (first ≤ shortest p) ⌝ }
     ensures { λ r. ⌜ r ≡ min (shortest p - first) (length (now (out .entry)) / 2) ⌝ }
-    ensures { λ r. ⌜ now (out .exit) ≡ written Accepted (letters (take r (drop first (routeOf (now (start .entry)) (now (goal .entry)) route)))) (now (out .entry)) ⌝ }
+    ensures { λ r. ⌜ now (out .exit) ≡ letters (take r (drop first (routeOf (now (start .entry)) (now (goal .entry)) route))) ++ drop (2 * r) (now (out .entry)) ⌝ }
 {
     let count = write::lesser(p.shortest() - first, out.len() / 2);
     if 0 < count {

@@ -3,11 +3,12 @@ ghost use Prim.Native.Nat.{_≤_};
 ghost use lib.ListN.{length};
 ghost use Rattle.board.specs.Position.{WellFormed};
 ghost use Rattle.board.specs.Task.{limit};
-ghost use Rattle.run.specs.Pegs.{Holds};
+ghost use Rattle.run.specs.Inner.Pegs.{Holds};
+use board::LIMIT;
 
 pub struct Pegs {
     pub top: [u8; 3],
-    pub beneath: [u8; 60],
+    pub beneath: [u8; LIMIT],
 }
 
 impl Pegs {
@@ -18,7 +19,7 @@ impl Pegs {
     {
         let mut d = position.len();
         let mut top = [d as u8 + 1; 3];
-        let mut beneath = [0; 60];
+        let mut beneath = [0; LIMIT];
         while 0 < d {
             d -= 1;
             let peg = position[d] as usize;

@@ -5,16 +5,16 @@ ghost use lib.ListN.{length, take, drop};
 ghost use Rattle.board.specs.Position.{peg, WellFormed};
 ghost use Rattle.board.specs.Task.{limit};
 ghost use Rattle.plan.specs.Plan.{planOf, routes, shortest};
-ghost use Rattle.plan.specs.Sound.{Ends};
-ghost use Rattle.route.specs.Aim.{aim};
+ghost use Rattle.plan.specs.Inner.Sound.{Ends};
+ghost use Rattle.route.specs.Inner.Aim.{aim};
 ghost use Rattle.route.specs.Route.{routeOf, after};
-ghost use Rattle.run.specs.Ready.{Ready};
-ghost use Rattle.run.specs.Start.{startLeg, Spreads, Started};
+ghost use Rattle.run.specs.Inner.Ready.{Ready};
+ghost use Rattle.run.specs.Inner.Start.{startLeg, Spreads, Started};
 use crate::pegs::Pegs;
 use crate::stepper::Leg;
 use crate::stepper::Stepper;
 use crate::stepper::Turn;
-use plan::answer::Plan;
+use plan::Plan;
 use route::course::Course;
 use route::course::Stage;
 
@@ -26,7 +26,7 @@ fn aim_of(pegs: &[u8], k: usize, target: u8) -> u8
     let mut goal = target;
     let mut d = k;
     while 0 < d {
-        goal = board::peg::third(goal, pegs[d]);
+        goal = board::third(goal, pegs[d]);
         d -= 1;
     }
     goal
@@ -69,7 +69,7 @@ fn stepper_at(pegs: &[u8], leg: Leg) -> Stepper
     requires { ⌜ (length (now pegs) ≤ limit) × WellFormed (now pegs) ⌝ }
     ensures { λ r. ⌜ Started r (now (pegs .entry)) leg ⌝ }
 {
-    let aside = board::peg::third(leg.from, leg.to);
+    let aside = board::third(leg.from, leg.to);
     let mut last = leg.disc;
     if 0 < last {
         last -= 1;

@@ -4,9 +4,10 @@ ghost use Prim.Native.Nat.{_%_, _<_, _≤_};
 ghost use lib.ListN.{length, getD};
 ghost use Rattle.board.specs.Position.{peg};
 ghost use Rattle.board.specs.Task.{limit};
-ghost use Rattle.run.specs.Pegs.{arrays, shifted};
-ghost use Rattle.run.specs.Stepper.{smallTurn, otherFrom, otherTurn, gatherTurn, spreadLeg, nextLeg, towerAim, legTurn, Carries};
+ghost use Rattle.run.specs.Inner.Pegs.{arrays, shifted};
+ghost use Rattle.run.specs.Inner.Stepper.{smallTurn, otherFrom, otherTurn, gatherTurn, spreadLeg, nextLeg, towerAim, legTurn, Carries};
 use crate::pegs::Pegs;
+use board::LIMIT;
 
 // A move of disc `disc` + 1, for which the smaller ones are gathered on the third peg; `again`: the same disc crosses once more.
 pub struct Leg {
@@ -39,7 +40,7 @@ pub struct Step {
 
 impl Turn {
     // Disc 1 goes to its target.
-    fn small_turn(self, top: &mut [u8; 3], beneath: &mut [u8; 60]) -> Step
+    fn small_turn(self, top: &mut [u8; 3], beneath: &mut [u8; LIMIT]) -> Step
         requires { ⌜ (0 < self .left) × (self .small < 3) × (self .aim < 3) × (getD (now top) (self .small) 0 ≡ 1) ⌝ }
         ensures { λ r. ⌜ r ≡ smallTurn self ⌝ }
         ensures { λ r. ⌜ arrays (now (top .exit)) (now (beneath .exit)) ≡ shifted (arrays (now (top .entry)) (now (beneath .entry))) (r .from) (r .to) ⌝ }
@@ -60,7 +61,7 @@ impl Turn {
 
     // Between the pegs without disc 1 the smaller topmost disc goes onto the larger. Disc 1 then goes after it where its number is even,
     // else to where it came from.
-    fn other_turn(self, top: &mut [u8; 3], beneath: &mut [u8; 60]) -> Step
+    fn other_turn(self, top: &mut [u8; 3], beneath: &mut [u8; LIMIT]) -> Step
         requires { ⌜ (0 < self .left) × (self .small < 3) × Carries (now top) (otherFrom (now top) (self .small)) ⌝ }
         ensures { λ r. ⌜ r ≡ otherTurn (now (top .entry)) self ⌝ }
         ensures { λ r. ⌜ arrays (now (top .exit)) (now (beneath .exit)) ≡ shifted (arrays (now (top .entry)) (now (beneath .entry))) (r .from) (r .to) ⌝ }
@@ -91,7 +92,7 @@ impl Turn {
     }
 
     // A move of the gathering: disc 1's where an odd number is left, else the other.
-    pub fn gather_turn(self, top: &mut [u8; 3], beneath: &mut [u8; 60]) -> Step
+    pub fn gather_turn(self, top: &mut [u8; 3], beneath: &mut [u8; LIMIT]) -> Step
         requires { ⌜ (0 < self .left) × (self .small < 3) × (gatherTurn (now top) self .to < 3) ⌝ }
         requires { ⌜ Carries (now top) (gatherTurn (now top) self .from) × (self .left % 2 ≡ 1 → getD (now top) (self .small) 0 ≡ 1) ⌝ }
         ensures { λ r. ⌜ r ≡ gatherTurn (now (top .entry)) self ⌝ }
@@ -104,7 +105,7 @@ impl Turn {
     }
 
     // The leg's own move; the next leg begins with the smaller discs as a tower.
-    pub fn leg_turn(self, leg: Leg, next: Leg, top: &mut [u8; 3], beneath: &mut [u8; 60]) -> Step
+    pub fn leg_turn(self, leg: Leg, next: Leg, top: &mut [u8; 3], beneath: &mut [u8; LIMIT]) -> Step
         requires { ⌜ (leg .from < 3) × (leg .to < 3) × Carries (now top) (leg .from) ⌝ }
         requires { ⌜ (next .from < 3) × (next .to < 3) × (next .disc ≤ limit) ⌝ }
         ensures { λ r. ⌜ r ≡ legTurn self leg next ⌝ }
@@ -118,8 +119,8 @@ impl Turn {
         beneath[at] = top[to as usize];
         top[from as usize] = under;
         top[to as usize] = disc;
-        let tower = board::peg::third(from, to);
-        let target = board::peg::third(next.from, next.to);
+        let tower = board::third(from, to);
+        let target = board::third(next.from, next.to);
         let mut small = self.small;
         if leg.disc == 0 {
             small = to;
@@ -164,7 +165,7 @@ pub fn next_leg(leg: Leg, goal: &[u8]) -> Leg
     requires { ⌜ (leg .from < 3) × (leg .to < 3) × (leg .disc ≤ length (now goal)) ⌝ }
     ensures { λ r. ⌜ r ≡ nextLeg leg (peg (now (goal .entry))) ⌝ }
 {
-    let third = board::peg::third(leg.from, leg.to);
+    let third = board::third(leg.from, leg.to);
     if leg.again {
         return Leg {
             disc: leg.disc,
@@ -181,6 +182,6 @@ fn tower_aim(k: usize, w: u8, j: u8) -> u8
     requires { ⌜ (w < 3) × (j < 3) ⌝ }
     ensures { λ r. ⌜ r ≡ towerAim k w j ⌝ }
 {
-    let other = board::peg::third(w, j);
+    let other = board::third(w, j);
     if k % 2 == 1 { j } else { other }
 }

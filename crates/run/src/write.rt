@@ -5,12 +5,13 @@ ghost use Prim.Native.Nat.{ℕ, _+_, _*_, _<_, _≤_, min};
 ghost use lib.ListN.{length, drop};
 ghost use lib.Seq.{sets};
 ghost use Rattle.board.specs.Position.{peg};
-ghost use Rattle.run.specs.Gatherer.{gatherer, gathersFrom, gatherLetters, Gathers};
-ghost use Rattle.run.specs.Stepper.{Safe};
-ghost use Rattle.run.specs.Written.{stepsFrom, stepLetters};
+ghost use Rattle.run.specs.Inner.Gatherer.{gatherer, gathersFrom, gatherLetters, Gathers};
+ghost use Rattle.run.specs.Inner.Stepper.{Safe};
+ghost use Rattle.run.specs.Inner.Written.{stepsFrom, stepLetters};
 use crate::stepper::Stepper;
 use crate::stepper::Turn;
 use crate::stepper::next_leg;
+use board::LIMIT;
 
 // The lesser of two numbers.
 pub fn lesser(a: u64, b: usize) -> usize
@@ -24,7 +25,7 @@ pub fn lesser(a: u64, b: usize) -> usize
 fn write_gathering(
     start: Turn,
     top: &mut [u8; 3],
-    beneath: &mut [u8; 60],
+    beneath: &mut [u8; LIMIT],
     count: usize,
     out: &mut [u8],
     at: usize,

@@ -4,7 +4,7 @@ use crate::position::write_pegs;
 use crate::spread::spread;
 use crate::tally::plus;
 use crate::walking::is_placed;
-use route::answer::Located;
+use route::Located;
 
 // Whether Place has a position at an index of a route, and of no lower one.
 fn is_lowest(task: &[u8], route: u64, index: u64, n: usize, position: usize) -> bool {
@@ -32,7 +32,7 @@ fn is_located(
     let mut bytes = [0u8; 12];
     write_pegs(position, n, 0, &mut bytes);
     let on = plus(there, back) == distance;
-    match route::locate::locate(task, &bytes[..n]) {
+    match route::locate(task, &bytes[..n]) {
         Located::Refused(_) => false,
         Located::Off => !on,
         Located::On { index, route } => {

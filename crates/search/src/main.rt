@@ -22,7 +22,7 @@ mod spread;
 mod tally;
 mod walking;
 
-use libc::STDOUT_FILENO;
+use show::named;
 use tally::Tally;
 
 fn main() {
@@ -35,20 +35,15 @@ fn main() {
 
 // Writes the line of a size.
 fn write_line(n: usize, t: Tally) {
-    io::print_decimal(STDOUT_FILENO, n as u64);
-    write_field(b" discs: pairs ", t.pairs);
-    write_field(b", sum ", t.sum);
-    write_field(b", ties ", t.ties);
-    write_field(b", lengths ", t.lengths);
-    write_field(b", counts ", t.counts);
-    write_field(b", routes ", t.routes);
-    write_field(b", moves ", t.moves);
-    write_field(b", located ", t.located);
-    write_field(b", wrong ", t.wrong);
-    io::write_all(STDOUT_FILENO, b"\n");
-}
-
-fn write_field(name: &[u8], value: u64) {
-    io::write_all(STDOUT_FILENO, name);
-    io::print_decimal(STDOUT_FILENO, value);
+    show::number(n as u64);
+    named(b" discs: pairs ", t.pairs);
+    named(b", sum ", t.sum);
+    named(b", ties ", t.ties);
+    named(b", lengths ", t.lengths);
+    named(b", counts ", t.counts);
+    named(b", routes ", t.routes);
+    named(b", moves ", t.moves);
+    named(b", located ", t.located);
+    named(b", wrong ", t.wrong);
+    show::text(b"\n");
 }

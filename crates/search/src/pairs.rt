@@ -8,7 +8,7 @@ use crate::spread::spread;
 use crate::tally::MANY;
 use crate::tally::Tally;
 use crate::walking::right_routes;
-use plan::answer::Planned;
+use plan::Planned;
 
 // Plan's length of a task, or MANY where it refuses.
 fn plan_length(task: &[u8]) -> u64 {

@@ -6,14 +6,14 @@ use crate::position::top;
 use crate::position::wide;
 use crate::tally::MANY;
 use crate::tally::plus;
-use board::refusal::Verdict;
-use route::answer::Moving;
-use route::answer::Ran;
+use board::Verdict;
+use route::Moving;
+use route::Ran;
 
 // Whether Place writes a position as the one at an index of a route, and nothing after it.
 pub fn is_placed(task: &[u8], route: u64, index: u64, n: usize, position: usize) -> bool {
     let mut bytes = [3u8; 6];
-    match route::placing::place(task, route, index, &mut bytes) {
+    match route::place(task, route, index, &mut bytes) {
         Verdict::Refused(_) => false,
         Verdict::Accepted => are_pegs(&bytes, n, position),
     }
@@ -58,7 +58,7 @@ fn after_disc(at: usize, n: usize, disc: usize, from: usize, to: usize) -> usize
 
 // The position after the move that Move answers for an index, or NONE where that is not legal or the letters are of another move.
 fn moved(task: &[u8], route: u64, index: u64, n: usize, at: usize, letters: &[u8; 128]) -> usize {
-    match route::moves::move_at(task, route, index) {
+    match route::move_at(task, route, index) {
         Moving::Refused(_) => NONE,
         Moving::Move(m) => {
             let from = wide(m.from);

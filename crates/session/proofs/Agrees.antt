@@ -1,117 +1,62 @@
 -- The record and the tally agree, call by call.
-use Prim.Native.Nat.{ℕ, _+_}
+use Prim.Native.Nat.{ℕ}
 use mathlib.Core.Bool.{true}
-use mathlib.Core.List.{List}
+use mathlib.Core.List.{List, _++_}
 use mathlib.Core.Logic.{_≢_}
-use mathlib.Core.Path.{_≡_, _∙_, refl, sym, subst}
+use mathlib.Core.Path.{_≡_, _∙_, refl, sym, ap}
 use native.Mathlib.Omega.{arith}
 use borrow.Author.Tests.{eqb-false}
 use lib.Dec.{eqb}
-use lib.ListN.{length}
-use Rattle.board.specs.Position.{WellFormed}
+use lib.ListN.{length, length-append}
+use Rattle.board.specs.Held.{padded}
+use Rattle.board.specs.Legal.{legalCheck}
 use Rattle.board.specs.Move.{Move, Legal, moved}
-use Rattle.board.specs.Fewest.{fewest}
+use Rattle.board.specs.Position.{WellFormed}
+use Rattle.board.specs.Reply.{refused, answer, _>>_, _>>=_, Check, pass, check}
 use Rattle.board.specs.Task.{discs, start, goal}
-use Rattle.board.specs.declared.refusal.Verdict.{Verdict}
-use Rattle.board.specs.declared.refusal.Verdict.the-variants.{Accepted, Refused}
-use Rattle.board.proofs.Accepted.{SoundTask, check-accepted}
+use Rattle.board.proofs.Arrays.{padded-take, padded-holds, padded-moved, held-padded, holds-exactly}
+use Rattle.board.proofs.Formed.{formed-append}
+use Rattle.board.proofs.Legality.{legal-accepted}
+use Rattle.board.proofs.Replies.{check-answered}
+use Rattle.board.proofs.Tasks.{SoundTask, sound-task, joined-task}
 use Rattle.board.proofs.Top.{length-moved}
 use Rattle.plan.proofs.Moves.{formed-moved}
-use Rattle.plan.proofs.OneMove.{moved-further, moved-nearer}
-use Rattle.session.specs.Record.{startOf, goalOf, currentOf, padded, playLimit, sound}
-use Rattle.session.specs.Session.{
-  opened,
-  ifToward,
-  ifLevel,
-  ifAway,
-  playVerdict,
-  moveMark,
-  playedRecord,
-  stepOr,
-  stepOf,
-  figuresOf,
-  reportOf,
-}
-use Rattle.session.specs.Tally.{
-  Call,
-  play,
-  report,
-  Tally,
-  fresh,
-  tallyVerdict,
-  tallyMark,
-  tallyOr,
-  tallied,
-  markOr,
-  tallyReply,
-  playReply,
-  reportReply,
-  recordReply,
-  recordNext,
-}
-use Rattle.session.specs.declared.record.Mark.{Mark}
+use Rattle.session.specs.Answer.{opened, playCheck, moveMark, playAnswer, playedRecord, recordOr, playLeaves, reportAnswer}
+use Rattle.session.specs.Counts.{playLimit}
+use Rattle.session.specs.Record.{startOf, goalOf, currentOf, sound, Sound}
+use Rattle.session.specs.Sessions.{heldBy, recordReply, recordNext}
+use Rattle.session.specs.Tally.{Call, play, report, marked, Tally, fresh, tallyCheck, tallyMark, playedTally, tallyOr, tallied, tallyReply}
+use Rattle.session.specs.declared.counting.Mark.{Mark}
 use Rattle.session.specs.declared.record.Session.{Session}
-use Rattle.session.specs.declared.record.Stepped.{Stepped}
-use Rattle.session.proofs.Laws.{padded-take, padded-holds, padded-moved, faults-legal}
-use Rattle.session.proofs.Soundness.{Counted, counted-next, facts-sound}
+use Rattle.session.proofs.Kept.{Kept, kept-first, kept-played}
+use Rattle.session.proofs.Soundness.{Sized, record-sound, sound-positions, start-ends, current-ends, current-length, sound-kept}
 
--- The record that holds a tally.
-abbrev pub heldBy : List ℕ → Tally → Session
-heldBy t y =
-    record {
-      n = discs t;
-      start = padded (start t);
-      goal = padded (goal t);
-      current = padded (y .position);
-      made = y .made;
-      toward = y .toward;
-      level = y .level;
-      away = y .away;
-    }
-
--- A record and a tally of a task agree: the record holds the tally, whose position is one of the task's and whose counts go together.
+-- A record and a tally of a task agree: the record holds the tally, whose position is one of the task's and whose counts go with it.
 pub record Agrees (t : List ℕ) (y : Tally) (s : Session) : Type 0 where
   pub held : s ≡ heldBy t y
   pub sized : length (y .position) ≡ discs t
   pub formed : WellFormed (y .position)
-  pub counted : Counted (y .made) (y .toward) (y .level) (y .away) (fewest (y .position) (goal t)) (fewest (start t) (goal t))
-
--- The tally after an accepted play, by its mark.
-abbrev pub playedTally : Tally → Move → Mark → Tally
-playedTally y m k =
-    record {
-      position = moved (y .position) m;
-      made = y .made + 1;
-      toward = y .toward + ifToward k;
-      level = y .level + ifLevel k;
-      away = y .away + ifAway k;
-    }
+  pub kept : Kept (start t) (goal t) (y .position) (y .counts)
 
 -- What a play that the tally accepts finds: it is not full, and the move is legal.
 pub record Accepts (y : Tally) (m : Move) : Type 0 where
-  pub small : y .made ≢ playLimit
+  pub more : y .counts .made ≢ playLimit
   pub legal : Legal (y .position) m
 
--- A play that the tally does not refuse finds it.
-pub accepted-accepts : (y : Tally) (m : Move) → tallyVerdict y m ≡ Accepted → Accepts y m
-unfolding tallyVerdict
-accepted-accepts y m h =
-    let plays = check-accepted (eqb (y .made) playLimit) _ _ h in
-    record { small = eqb-false (y .made) playLimit (plays .0); legal = faults-legal (y .position) m (plays .1) }
+pub tally-accepts : (y : Tally) (m : Move) → tallyCheck y m ≡ pass → Accepts y m
+unfolding tallyCheck
+tally-accepts y m h =
+    let (more, rest) = check-answered (eqb (y .counts .made) playLimit) 11 _ h in
+    record { more = eqb-false (y .counts .made) playLimit more; legal = legal-accepted (y .position) m rest }
 
 module _ (t : List ℕ) (task : SoundTask t) where
   -- At first they agree.
   pub agrees-fresh : Agrees t (fresh t) (opened t)
   agrees-fresh =
-      record {
-        held = refl;
-        sized = task .start-length;
-        formed = task .start-formed;
-        counted = record { counts = refl; within = omega arith; marks = refl };
-      }
+      record { held = refl; sized = task .start-length; formed = task .start-formed; kept = kept-first (start t) (goal t) }
 
   module _ (y : Tally) (s : Session) (a : Agrees t y s) where
-    -- The positions of the record are the tally's and the task's.
+    -- The positions of the record that holds the tally.
     current-held : currentOf (heldBy t y) ≡ y .position
     current-held = padded-take (y .position) (discs t) (a .sized)
 
@@ -124,61 +69,50 @@ module _ (t : List ℕ) (task : SoundTask t) where
     -- The record that holds the tally is sound.
     held-sound : sound (heldBy t y) ≡ true
     held-sound =
-        facts-sound (heldBy t y)
+        record-sound (heldBy t y)
         (record {
           few = task .within;
-          start-held = padded-holds (start t) (discs t) (task .start-length) (task .start-formed);
-          goal-held = padded-holds (goal t) (discs t) (task .goal-length) (task .goal-formed);
-          current-held = padded-holds (y .position) (discs t) (a .sized) (a .formed);
-          counted = rw (current-held, start-held, goal-held) (a .counted);
+          start-held = holds-exactly _ _ .0 (padded-holds (start t) (discs t) (task .start-length) (task .start-formed));
+          goal-held = holds-exactly _ _ .0 (padded-holds (goal t) (discs t) (task .goal-length) (task .goal-formed));
+          current-held = holds-exactly _ _ .0 (padded-holds (y .position) (discs t) (a .sized) (a .formed));
+          sum = a .kept .sum;
+          within = a .kept .within;
+          marks = rw (current-held, start-held, goal-held) (a .kept .marks);
         })
 
     -- So a record that agrees with a tally is sound.
     pub agrees-sound : sound s ≡ true
     agrees-sound = rw (a .held) held-sound
 
-    -- Its current position is the tally's position.
+    -- Its positions are the tally's and the task's.
     pub agrees-current : currentOf s ≡ y .position
     agrees-current = rw (a .held) current-held
 
-    -- The record refuses what the tally refuses.
-    held-verdict : (m : Move) → playVerdict (heldBy t y) m ≡ tallyVerdict y m
-    unfolding playVerdict tallyVerdict
-    held-verdict m = rw (held-sound, current-held)
+    pub agrees-start : startOf s ≡ start t
+    agrees-start = rw (a .held) start-held
 
-    -- It marks as the tally marks.
-    held-mark : (m : Move) → moveMark (heldBy t y) m ≡ tallyMark t y m
-    unfolding moveMark tallyMark
-    held-mark m = rw (current-held, goal-held)
+    pub agrees-goal : goalOf s ≡ goal t
+    agrees-goal = rw (a .held) goal-held
+
+    -- It refuses what the tally refuses, and marks as the tally marks.
+    held-answer : (m : Move) → playAnswer (heldBy t y) m ≡ (tallyCheck y m >> answer (tallyMark t y m))
+    unfolding playAnswer playCheck tallyCheck moveMark tallyMark
+    held-answer m = rw (held-sound, current-held, goal-held)
 
     -- After an accepted play it holds the tally after it.
     held-played : (m : Move) (k : Mark) → Legal (y .position) m → playedRecord (heldBy t y) m k ≡ heldBy t (playedTally y m k)
     unfolding playedRecord
     held-played m k l = rw (current-held, padded-moved (y .position) m l)
 
-    -- So it answers a play as the tally does.
-    held-step : (m : Move) → stepOf (heldBy t y) (m .from) (m .to)
-        ≡ stepOr (tallyVerdict y m) (tallyMark t y m) (playedRecord (heldBy t y) m (tallyMark t y m)) (heldBy t y)
-    unfolding stepOf
-    held-step m = rw (held-verdict m, held-mark m)
-
-    -- And a report as the tally does.
-    held-report : reportReply (reportOf (heldBy t y)) ≡ tallyReply t y report
-    unfolding reportOf figuresOf tallyReply
-    held-report = rw (held-sound, current-held, start-held, goal-held)
-
     -- They reply the same.
     pub agrees-reply : (c : Call) → recordReply s c ≡ tallyReply t y c
-    unfolding recordReply tallyReply
-    agrees-reply report = rw (a .held) held-report
-    agrees-reply (play m) = rw (a .held, held-step m) (same (tallyVerdict y m))
+    unfolding recordReply tallyReply reportAnswer
+    agrees-reply report = rw (a .held, held-sound, current-held, start-held, goal-held)
+    agrees-reply (play m) = rw (a .held, held-answer m) (same (tallyCheck y m))
       where
-        after : Session
-        after = playedRecord (heldBy t y) m (tallyMark t y m)
-
-        same : (v : Verdict) → playReply (stepOr v (tallyMark t y m) after (heldBy t y) .played) ≡ markOr v (tallyMark t y m)
-        same Accepted = refl
-        same (Refused r) = refl
+        same : (v : Check) → ((v >> answer (tallyMark t y m)) >>= λ k. answer (marked k)) ≡ (v >> answer (marked (tallyMark t y m)))
+        same (refused k) = refl
+        same (answer u) = refl
 
     -- After an accepted play they agree.
     agrees-played : (m : Move) → Accepts y m
@@ -190,23 +124,65 @@ module _ (t : List ℕ) (task : SoundTask t) where
           held = held-played m (tallyMark t y m) (p .legal);
           sized = length-moved (y .position) m ∙ a .sized;
           formed = formed-moved (y .position) m (a .formed) (p .legal);
-          counted =
-              counted-next (a .counted) (p .small) (fewest (moved (y .position) m) (goal t))
-              (moved-further (y .position) (goal t) m same (a .formed) (task .goal-formed) (p .legal))
-              (moved-nearer (y .position) (goal t) m same (a .formed) (task .goal-formed) (p .legal));
+          kept = kept-played same (a .formed) (task .goal-formed) (p .legal) (p .more) (a .kept);
         }
 
     -- They agree after every call.
     pub agrees-next : (c : Call) → Agrees t (tallied t y c) (recordNext s c)
-    unfolding recordNext tallied
+    unfolding recordNext tallied playLeaves
     agrees-next report = a
-    agrees-next (play m) =
-        rw (a .held) (subst (λ (x : Stepped). Agrees t (tallied t y (play m)) (x .session)) (sym (held-step m)) (by (tallyVerdict y m) refl))
+    agrees-next (play m) = rw (a .held, held-answer m) (by (tallyCheck y m) refl)
       where
-        k : Mark
-        k = tallyMark t y m
+        by : (v : Check) → tallyCheck y m ≡ v
+            → Agrees t (tallyOr v (playedTally y m (tallyMark t y m)) y) (recordOr (v >> answer (tallyMark t y m)) (heldBy t y) m)
+        by (refused k) e = rw (← a .held) a
+        by (answer u) e = agrees-played m (tally-accepts y m e)
 
-        by : (v : Verdict) → tallyVerdict y m ≡ v
-            → Agrees t (tallyOr v (playedTally y m k) y) (stepOr v k (playedRecord (heldBy t y) m k) (heldBy t y) .session)
-        by Accepted e = agrees-played m (accepted-accepts y m e)
-        by (Refused r) e = rw (← a .held) a
+-- The task and the tally of a record.
+abbrev pub taskOf : Session → List ℕ
+taskOf s = startOf s ++ goalOf s
+
+abbrev pub tallyOf : Session → Tally
+tallyOf s = record { position = currentOf s; counts = s .counts }
+
+module _ (s : Session) (z : Sized s) (r : Sound s) where
+  -- Every sound record is one that holds a tally: its task is sound ..
+  pub sound-task-of : SoundTask (taskOf s)
+  sound-task-of =
+      let ends = start-ends z (sound-positions r) in
+      let (half, _, _) = joined-task (startOf s) (goalOf s) (ends .same) in
+      sound-task (taskOf s) (omega (arith, length-append (startOf s) (goalOf s), ends .same)) (omega (arith, ends .within))
+      (formed-append (startOf s) (goalOf s) (ends .start-formed) (ends .goal-formed))
+
+  -- .. and it agrees with its own tally.
+  pub sound-agrees : Agrees (taskOf s) (tallyOf s) s
+  sound-agrees =
+      let p = sound-positions r in
+      let ends = start-ends z p in
+      let stands = current-ends z p in
+      let size = current-length z p in
+      let (half, first, second) = joined-task (startOf s) (goalOf s) (ends .same) in
+      let discs-are : discs (taskOf s) ≡ s .n = omega (arith, ends .same, stands .same) in
+      let start-is = held-padded (s .n) (s .start) (p .few) (z .start-size) (p .start) in
+      let goal-is = held-padded (s .n) (s .goal) (p .few) (z .goal-size) (p .goal) in
+      let current-is = held-padded (s .n) (s .current) (p .few) (z .current-size) (p .current) in
+      record {
+        held = λ i.
+            record {
+              n = sym discs-are i;
+              start = (start-is ∙ ap padded (sym first)) i;
+              goal = (goal-is ∙ ap padded (sym second)) i;
+              current = current-is i;
+              counts = s .counts;
+            };
+        sized = size ∙ sym discs-are;
+        formed = stands .start-formed;
+        kept = rw (first, second) (sound-kept r);
+      }
+
+  -- So a play keeps a sound record sound.
+  pub play-sound : (m : Move) → sound (playLeaves s m) ≡ true
+  unfolding recordNext
+  play-sound m =
+      agrees-sound (taskOf s) sound-task-of (tallied (taskOf s) (tallyOf s) (play m)) (playLeaves s m)
+      (agrees-next (taskOf s) sound-task-of (tallyOf s) s sound-agrees (play m))

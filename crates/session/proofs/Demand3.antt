@@ -1,56 +1,69 @@
--- Demand 3, whole: one statement about a task that Begin does not refuse (document 01, "What demand 3 speaks of").
-use Prim.Native.Nat.{ℕ, _*_, _≤_, _<_}
-use mathlib.Core.Path.{_≡_, _∙_, sym}
+-- Demand 3 holds of every task without faults.
+use Prim.Native.Nat.{ℕ, _<_}
 use mathlib.Core.List.{List, map}
-use mathlib.Core.Logic.{_≢_, _⊎_, _↔_}
-use lib.ListN.{length, take, drop}
+use mathlib.Core.Logic.{_≢_}
+use mathlib.Core.Path.{_≡_, _∙_, sym}
+use native.Mathlib.Omega.{arith}
+use lib.ListN.{length, length-map}
+use Rattle.board.specs.Fault.{Faultless, taskFaults}
 use Rattle.board.specs.Move.{Move, Leads}
-use Rattle.board.specs.Task.{start, goal, taskVerdict}
-use Rattle.board.specs.declared.refusal.Verdict.the-variants.{Accepted}
-use Rattle.board.proofs.Accepted.{task-accepted}
+use Rattle.board.specs.Task.{start, goal}
+use Rattle.board.proofs.Tasks.{SoundTask, task-accepted, faultless-accepted}
+use Rattle.plan.specs.Plan.{planOf}
+use Rattle.plan.proofs.Calls.{plan-accepts}
 use Rattle.plan.proofs.Optimal.{shortest-fewest}
-use Rattle.route.specs.Answer.{lengthOf, countOf, taskRoute, moveAnswer, runAnswer, runWrites}
-use Rattle.route.specs.Route.{plain, moveAt}
-use Rattle.route.specs.declared.answer.Moving.the-variants as moving
-use Rattle.route.specs.declared.answer.Ran.the-variants as ran
-use Rattle.route.proofs.Answers.{readMoves, move-answered, run-reads}
-use Rattle.route.proofs.Distinct.{Tied, routes-count, routes-two, routes-differ}
-use Rattle.route.proofs.Shortest.{IsRoute, route-leads, route-only}
-use Rattle.session.specs.Tally.{Call}
-use Rattle.session.proofs.Sessions.{SessionsAgree, sessions-agree}
+use Rattle.route.specs.Answer.{lengthOf, countOf, taskRoute}
+use Rattle.route.specs.Ours.{ourRoute}
+use Rattle.route.specs.Route.{plain}
+use Rattle.route.proofs.Calls.Answers.{route-length, run-answered, run-reads}
+use Rattle.route.proofs.Calls.Opened.{Routed}
+use Rattle.route.proofs.Calls.Ours.{our-route}
+use Rattle.route.proofs.Shortest.Distinct.{routes-count, routes-two, routes-differ}
+use Rattle.route.proofs.Shortest.Routes.{route-leads, route-only}
+use Rattle.session.specs.Answer.{opened}
+use Rattle.session.specs.Demand3.{Demand3}
+use Rattle.session.proofs.Calls.{begin-accepts}
+use Rattle.session.proofs.Sessions.{begun-accounted}
 
-pub record Demand3 (t : List ℕ) : Type 0 where
-  -- No list of legal moves from start to goal is shorter than our length.
-  pub none-shorter : (ms : List Move) → Leads (start t) ms (goal t) → lengthOf t ≤ length ms
-  -- Each of our routes is such a list, of that length.
-  pub ours : (r : ℕ) → r < countOf t → IsRoute (start t) (goal t) (taskRoute t r)
-  -- Every list of exactly that length is one of our routes.
-  pub no-others : (ms : List Move) → Leads (start t) ms (goal t) → length ms ≡ lengthOf t
-      → (r : ℕ) × (r < countOf t) × (ms ≡ map plain (taskRoute t r))
-  -- There are one or two: two exactly when start and goal differ and direct and detour tie, and then they differ.
-  pub one-or-two : (countOf t ≡ 1) ⊎ (countOf t ≡ 2)
-  pub two-exactly : (countOf t ≡ 2) ↔ Tied (start t) (goal t)
-  pub two-differ : countOf t ≡ 2 → map plain (taskRoute t 0) ≢ map plain (taskRoute t 1)
-  -- Our route is what Move answers for each index, and what Run writes, read as moves, is its part.
-  pub move-answers : (r i : ℕ) → r < countOf t → i < lengthOf t → moveAnswer t r i ≡ moving.Move (moveAt (taskRoute t r) i)
-  pub run-writes : (r i : ℕ) (out : List ℕ) (k : ℕ) → runAnswer t r i out ≡ ran.Moves k
-      → readMoves (take (2 * k) (runWrites t r i out)) ≡ take k (drop i (map plain (taskRoute t r)))
-  -- Over any list of plays and reports the session agrees with the tally, reply for reply, and the record holds the tally's account.
-  pub sessions : (cs : List Call) → SessionsAgree t cs
+module _ (t : List ℕ) (none : Faultless (taskFaults t)) where
+  task : SoundTask t
+  task = task-accepted t (faultless-accepted t none)
 
--- Demand 3 holds of every task that Begin does not refuse.
-pub demand-3 : (t : List ℕ) → taskVerdict t ≡ Accepted → Demand3 t
-demand-3 t accepted =
-    let s = task-accepted t accepted in
-    let size = s .start-length ∙ sym (s .goal-length) in
-    record {
-      none-shorter = shortest-fewest (start t) (goal t) size (s .start-formed) (s .goal-formed) .least;
-      ours = route-leads (start t) (goal t) size (s .start-formed) (s .goal-formed);
-      no-others = route-only (start t) (goal t) size (s .start-formed) (s .goal-formed);
-      one-or-two = routes-count (start t) (goal t) size (s .start-formed) (s .goal-formed);
-      two-exactly = routes-two (start t) (goal t) size (s .start-formed) (s .goal-formed);
-      two-differ = routes-differ (start t) (goal t) size (s .start-formed) (s .goal-formed);
-      move-answers = λ r i known l. move-answered t accepted r known i l;
-      run-writes = λ r i out k e. run-reads t r i out k e;
-      sessions = sessions-agree t accepted;
-    }
+  same : length (start t) ≡ length (goal t)
+  same = task .start-length ∙ sym (task .goal-length)
+
+  -- Our route r is the route of the rules.
+  routed : (r : ℕ) → r < countOf t → Routed t r
+  routed r known = record { accepted = faultless-accepted t none; sound = task; known = known }
+
+  rules : (r : ℕ) → r < countOf t → ourRoute t r (lengthOf t) ≡ map plain (taskRoute t r)
+  rules r known = our-route t r (routed r known)
+
+  no-others : (ms : List Move) → Leads (start t) ms (goal t) → length ms ≡ lengthOf t → (r : ℕ) × (r < countOf t) × (ms ≡ ourRoute t r (lengthOf t))
+  no-others ms w e =
+      let (r, known, is) = route-only (start t) (goal t) same (task .start-formed) (task .goal-formed) ms w e in
+      (r, known, is ∙ sym (rules r known))
+
+  two-differ : countOf t ≡ 2 → ourRoute t 0 (lengthOf t) ≢ ourRoute t 1 (lengthOf t)
+  two-differ two =
+      rw (rules 0 (omega arith), rules 1 (omega arith)) (routes-differ (start t) (goal t) same (task .start-formed) (task .goal-formed) two)
+
+  pub demand-3 : Demand3 t
+  demand-3 =
+      record {
+        plan = planOf (start t) (goal t);
+        planned = plan-accepts t none;
+        none-shorter = shortest-fewest (start t) (goal t) same (task .start-formed) (task .goal-formed) .least;
+        ours-lead = λ r known. rw (rules r known) (route-leads (start t) (goal t) same (task .start-formed) (task .goal-formed) r known .leads);
+        ours-long = λ r known. rw (rules r known) (length-map (taskRoute t r) plain ∙ route-length t r (routed r known));
+        no-others = no-others;
+        one-or-two = routes-count (start t) (goal t);
+        two-exactly = routes-two (start t) (goal t);
+        two-differ = two-differ;
+        run-writes = λ r i out k e.
+            let ran = run-answered t r i out e in
+            rw (rules r (ran .routed .known)) (run-reads t r i out ran);
+        begun = opened t;
+        begins = begin-accepts t none;
+        sessions = begun-accounted t (begin-accepts t none);
+      }

@@ -1,10 +1,11 @@
 -- Demand 3, and the laws of sessions that lead to it.
-pub mod Laws
+pub mod Marks
+pub mod Kept
 pub mod Soundness
 pub mod Agrees
 pub mod Sessions
+pub mod Calls
 pub mod Demand3
 -- What the code's proofs cite.
-pub mod CodeLaws
 pub mod Records
-pub mod ReplayLaws
+pub mod Replays

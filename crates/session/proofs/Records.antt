@@ -1,4 +1,4 @@
--- The machine values and the laws of a record, of a play's answer, and of the two together, as the walks of `lend` cite them. No field
+-- The machine values and the laws of a record, of a play's answer, and of the two together, as the walks of `lending` cite them. No field
 -- of a record is named.
 use mathlib.Core.Path.{_≡_, refl, ap, subst}
 use Prim.Native.Nat.{ℕ, _<_, _^_}
@@ -18,15 +18,21 @@ use denote.Builtin.{u8}
 use denote.Steps.{only, owned, nothing}
 use denote.Struct.Laws as Struct
 use denote.Enum.Laws as Enum
-use Rattle.session.specs.declared.record.Played.{Played}
+use Rattle.session.specs.Answer.{playReply, playAnswer, playLeaves}
+use Rattle.session.specs.declared.playing.Played.{Played}
 use Rattle.session.specs.declared.record.Session.{Session}
-use Rattle.session.specs.declared.record.Stepped.{Stepped}
-use Rattle.session.proofs.record.Played as P
-use Rattle.session.proofs.record.Played.Laws as P′
+use Rattle.session.specs.declared.playing.Stepped.{Stepped}
+use Rattle.session.proofs.playing.Played as P
+use Rattle.session.proofs.playing.Played.Laws as P′
 use Rattle.session.proofs.record.Session as S
 use Rattle.session.proofs.record.Session.Laws as S′
-use Rattle.session.proofs.record.Stepped as T
-use Rattle.session.proofs.record.Stepped.Laws as T′
+use Rattle.session.proofs.playing.Stepped as T
+use Rattle.session.proofs.playing.Stepped.Laws as T′
+
+-- What a play of the move from i to j on the record s answers, p, and leaves of the record, t.
+abbrev pub Plays : Session → ℕ → ℕ → Played → Session → Type 0
+Plays s i j p t =
+    (playReply p ≡ playAnswer s (record { from = i; to = j })) × (t ≡ playLeaves s (record { from = i; to = j }))
 
 -- The machine value of each.
 abbrev pub session-val : Session → Val

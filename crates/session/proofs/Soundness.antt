@@ -1,141 +1,122 @@
--- What a sound record satisfies, and that a play keeps it.
+-- A sound record: the test passes exactly where it is one, and what the functions need of it.
 use Prim.Native.Nat.{ℕ, _+_, _≤_, _<_}
-use mathlib.Core.Bool.{true, not, and-eq-true-iff}
+use mathlib.Core.Bool.{true, and-eq-true-iff}
 use mathlib.Core.List.{List}
-use mathlib.Core.Logic.{_≢_}
+use mathlib.Core.Logic.{_↔_}
 use mathlib.Core.Path.{_≡_}
 use native.Mathlib.Omega.{arith}
-use borrow.Author.Tests.{eqb-true, eqb-false, eq-eqb, leb-true, le-leb, not-false}
+use borrow.Author.Tests.{eqb-true, eq-eqb, leb-true, le-leb}
 use lib.Dec.{eqb, leb}
-use lib.ListN.{length, take, drop, set, length-take}
-use lib.Seq.{drop-set-lt}
-use Rattle.board.specs.Position.{wellFormed, WellFormed}
-use Rattle.board.specs.Move.{Move, Legal, top, moved}
-use Rattle.board.specs.Fewest.{fewest}
+use lib.ListN.{length, take}
+use lib.Seq.{length-take-le}
+use Rattle.board.specs.Held.{holdsPosition}
 use Rattle.board.specs.Task.{limit}
-use Rattle.board.specs.declared.refusal.Verdict.the-variants.{Accepted}
-use Rattle.board.proofs.Accepted.{check-accepted}
-use Rattle.plan.proofs.Moves.{formed-moved}
-use Rattle.plan.proofs.OneMove.{moved-further, moved-nearer}
-use Rattle.session.specs.Record.{startOf, goalOf, currentOf, allZero, holdsPosition, playLimit, countsAgree, marksAgree, sound}
-use Rattle.session.specs.Session.{markOf, ifToward, ifLevel, ifAway, playVerdict, moveMark, playedRecord}
+use Rattle.board.proofs.Arrays.{holds-exactly, held-formed}
+use Rattle.plan.specs.Inner.Sound.{Ends}
+use Rattle.session.specs.Counts.{playLimit, countsAgree}
+use Rattle.session.specs.Record.{startOf, goalOf, currentOf, positionsHeld, marksAgree, sound, Sound}
+use Rattle.session.specs.declared.counting.Counts.{Counts}
 use Rattle.session.specs.declared.record.Session.{Session}
-use Rattle.session.proofs.Laws.{faults-legal, set-moved, mark-one, mark-balance}
+use Rattle.session.proofs.Kept.{Kept}
 
--- The counts go together, and with the fewest to the goal now and at the start.
-pub record Counted (made toward level away now first : ℕ) : Type 0 where
-  pub counts : made ≡ toward + level + away
-  pub within : made ≤ playLimit
-  pub marks : toward + now ≡ away + first
+-- Counts that agree add up, and are few enough.
+pub counts-sum : (c : Counts) → countsAgree c ≡ true → c .made ≡ c .toward + c .level + c .away
+unfolding countsAgree
+counts-sum c h = eqb-true _ _ (and-eq-true-iff (eqb (c .made) (c .toward + c .level + c .away)) (leb (c .made) playLimit) .0 h .0)
 
--- One more play that changes the fewest by at most one keeps them together.
-pub counted-next : {made toward level away now first : ℕ} → Counted made toward level away now first → made ≢ playLimit
-    → (after : ℕ) → after ≤ now + 1 → now ≤ after + 1
-    → Counted (made + 1) (toward + ifToward (markOf now after)) (level + ifLevel (markOf now after)) (away + ifAway (markOf now after)) after first
-counted-next {now = now} c small after further nearer =
-    let one = mark-one (markOf now after) in
-    let balance = mark-balance now after further nearer in
-    record { counts = omega arith; within = omega arith; marks = omega arith }
+pub counts-few : (c : Counts) → countsAgree c ≡ true → c .made ≤ playLimit
+unfolding countsAgree
+counts-few c h = leb-true _ _ (and-eq-true-iff (eqb (c .made) (c .toward + c .level + c .away)) (leb (c .made) playLimit) .0 h .1)
 
--- What soundness says of a record.
-pub record SoundRecord (s : Session) : Type 0 where
+-- And counts that do, agree.
+pub counts-agree : (c : Counts) → c .made ≡ c .toward + c .level + c .away → c .made ≤ playLimit → countsAgree c ≡ true
+unfolding countsAgree
+counts-agree c sum few = rw (eq-eqb _ _ sum, le-leb _ _ few)
+
+-- The positions of a record: its discs are few enough, and its three arrays hold positions.
+pub record Positions (s : Session) : Type 0 where
   pub few : s .n ≤ limit
-  pub start-held : holdsPosition (s .n) (s .start) ≡ true
-  pub goal-held : holdsPosition (s .n) (s .goal) ≡ true
-  pub current-held : holdsPosition (s .n) (s .current) ≡ true
-  pub counted : Counted (s .made) (s .toward) (s .level) (s .away) (fewest (currentOf s) (goalOf s)) (fewest (startOf s) (goalOf s))
+  pub start : holdsPosition (s .n) (s .start) ≡ true
+  pub goal : holdsPosition (s .n) (s .goal) ≡ true
+  pub current : holdsPosition (s .n) (s .current) ≡ true
 
--- A sound record satisfies it.
-pub sound-facts : (s : Session) → sound s ≡ true → SoundRecord s
-unfolding sound countsAgree marksAgree
-sound-facts s h =
-    let a = and-eq-true-iff (leb (s .n) limit) _ .0 h in
-    let b = and-eq-true-iff (holdsPosition (s .n) (s .start)) _ .0 (a .1) in
-    let c = and-eq-true-iff (holdsPosition (s .n) (s .goal)) _ .0 (b .1) in
-    let d = and-eq-true-iff (holdsPosition (s .n) (s .current)) _ .0 (c .1) in
-    let e = and-eq-true-iff (countsAgree s) (marksAgree s) .0 (d .1) in
-    let f = and-eq-true-iff (eqb (s .made) (s .toward + s .level + s .away)) _ .0 (e .0) in
+pub positions-held : (s : Session) → positionsHeld s ≡ true → Positions s
+unfolding positionsHeld
+positions-held s h =
+    let (few, h₁) = and-eq-true-iff (leb (s .n) limit) _ .0 h in
+    let (start, h₂) = and-eq-true-iff (holdsPosition (s .n) (s .start)) _ .0 h₁ in
+    let (goal, current) = and-eq-true-iff (holdsPosition (s .n) (s .goal)) _ .0 h₂ in
+    record { few = leb-true _ _ few; start = start; goal = goal; current = current }
+
+held-positions : (s : Session) → Positions s → positionsHeld s ≡ true
+unfolding positionsHeld
+held-positions s p = rw (le-leb _ _ (p .few), p .start, p .goal, p .current)
+
+-- What passes the test is sound.
+pub sound-record : (s : Session) → sound s ≡ true → Sound s
+unfolding sound marksAgree
+sound-record s h =
+    let (held, rest) = and-eq-true-iff (positionsHeld s) _ .0 h in
+    let (counts, marks) = and-eq-true-iff (countsAgree (s .counts)) (marksAgree s) .0 rest in
+    let p = positions-held s held in
     record {
-      few = leb-true _ _ (a .0);
-      start-held = b .0;
-      goal-held = c .0;
-      current-held = d .0;
-      counted = record { counts = eqb-true _ _ (f .0); within = leb-true _ _ (f .1); marks = eqb-true _ _ (e .1) };
+      few = p .few;
+      start-held = holds-exactly (s .n) (s .start) .0 (p .start);
+      goal-held = holds-exactly (s .n) (s .goal) .0 (p .goal);
+      current-held = holds-exactly (s .n) (s .current) .0 (p .current);
+      sum = counts-sum (s .counts) counts;
+      within = counts-few (s .counts) counts;
+      marks = eqb-true _ _ marks;
     }
 
--- A record that satisfies it is sound.
-pub facts-sound : (s : Session) → SoundRecord s → sound s ≡ true
-unfolding sound countsAgree marksAgree
-facts-sound s r =
-    rw (
-      le-leb _ _ (r .few),
-      r .start-held,
-      r .goal-held,
-      r .current-held,
-      eq-eqb _ _ (r .counted .counts),
-      le-leb _ _ (r .counted .within),
-      eq-eqb _ _ (r .counted .marks),
-    )
-
--- The used bytes that a record holds are well formed.
-pub held-formed : (n : ℕ) (a : List ℕ) → holdsPosition n a ≡ true → WellFormed (take n a)
-unfolding holdsPosition
-held-formed n a h = and-eq-true-iff (wellFormed (take n a)) (allZero (drop n a)) .0 h .0
-
-module _ (n : ℕ) (a : List ℕ) (m : Move) (h : holdsPosition n a ≡ true) (l : Legal (take n a) m) where
-  -- The disc that moves is one of the record's.
-  disc-used : top (take n a) (m .from) < n
-  disc-used = omega (arith, l .there, length-take n a)
-
-  -- The used bytes after the move are what it leaves of the position.
-  pub take-moved : take n (set a (top (take n a) (m .from)) (m .to)) ≡ moved (take n a) m
-  take-moved = set-moved n a m disc-used
-
-  -- They are a position again, and the unused bytes are as they were.
-  pub moved-held : holdsPosition n (set a (top (take n a) (m .from)) (m .to)) ≡ true
-  unfolding holdsPosition
-  moved-held =
-      rw (take-moved, formed-moved (take n a) m (held-formed n a h) l, drop-set-lt n a _ _ disc-used)
-      (and-eq-true-iff (wellFormed (take n a)) (allZero (drop n a)) .0 h .1)
-
--- What an accepted play finds: a sound record that is not full, and a legal move.
-pub record Playable (s : Session) (m : Move) : Type 0 where
-  pub facts : SoundRecord s
-  pub small : s .made ≢ playLimit
-  pub legal : Legal (currentOf s) m
-
--- A play that is not refused finds it.
-pub accepted-playable : (s : Session) (m : Move) → playVerdict s m ≡ Accepted → Playable s m
-unfolding playVerdict
-accepted-playable s m h =
-    let sounds = check-accepted (not (sound s)) _ _ h in
-    let plays = check-accepted (eqb (s .made) playLimit) _ _ (sounds .1) in
+-- The positions of a sound record.
+pub sound-positions : {s : Session} → Sound s → Positions s
+sound-positions {s} r =
     record {
-      facts = sound-facts s (not-false (sound s) (sounds .0));
-      small = eqb-false (s .made) playLimit (plays .0);
-      legal = faults-legal (currentOf s) m (plays .1);
+      few = r .few;
+      start = holds-exactly (s .n) (s .start) .1 (r .start-held);
+      goal = holds-exactly (s .n) (s .goal) .1 (r .goal-held);
+      current = holds-exactly (s .n) (s .current) .1 (r .current-held);
     }
 
-module _ (s : Session) (m : Move) (goal-length : length (s .goal) ≡ limit) (current-length : length (s .current) ≡ limit) where
-  -- What an accepted play leaves of a sound record.
-  played-facts : SoundRecord s → s .made ≢ playLimit → Legal (currentOf s) m → SoundRecord (playedRecord s m (moveMark s m))
-  unfolding playedRecord moveMark
-  played-facts r small l =
-      let same : length (currentOf s) ≡ length (goalOf s) = simp length-take (omega arith) in
-      let hp = held-formed (s .n) (s .current) (r .current-held) in
-      let hg = held-formed (s .n) (s .goal) (r .goal-held) in
-      record {
-        few = r .few;
-        start-held = r .start-held;
-        goal-held = r .goal-held;
-        current-held = moved-held (s .n) (s .current) m (r .current-held) l;
-        counted =
-            rw (take-moved (s .n) (s .current) m (r .current-held) l)
-            (counted-next (r .counted) small (fewest (moved (currentOf s) m) (goalOf s))
-            (moved-further (currentOf s) (goalOf s) m same hp hg l)
-            (moved-nearer (currentOf s) (goalOf s) m same hp hg l));
-      }
+-- What is sound passes the test.
+pub record-sound : (s : Session) → Sound s → sound s ≡ true
+unfolding sound marksAgree
+record-sound s r =
+    rw (held-positions s (sound-positions r), counts-agree (s .counts) (r .sum) (r .within), eq-eqb _ _ (r .marks))
 
-  -- So it is sound again.
-  pub played-sound : Playable s m → sound (playedRecord s m (moveMark s m)) ≡ true
-  played-sound p = facts-sound (playedRecord s m (moveMark s m)) (played-facts (p .facts) (p .small) (p .legal))
+pub sound-exactly : (s : Session) → (sound s ≡ true) ↔ Sound s
+sound-exactly s = (sound-record s, record-sound s)
+
+-- The arrays of a record have a byte for each disc that there can be: so their type in the code says.
+pub record Sized (s : Session) : Type 0 where
+  pub start-size : length (s .start) ≡ limit
+  pub goal-size : length (s .goal) ≡ limit
+  pub current-size : length (s .current) ≡ limit
+
+-- Two arrays that hold positions of n discs are ends.
+held-ends : (n : ℕ) (a b : List ℕ) → n ≤ limit → length a ≡ limit → length b ≡ limit
+    → holdsPosition n a ≡ true → holdsPosition n b ≡ true → Ends (take n a) (take n b)
+held-ends n a b h la lb ha hb =
+    let sa = length-take-le n a (omega arith) in
+    let sb = length-take-le n b (omega arith) in
+    record { same = omega arith; within = omega arith; start-formed = held-formed n a ha; goal-formed = held-formed n b hb }
+
+module _ {s : Session} (z : Sized s) (p : Positions s) where
+  -- Its start and goal are ends, and so are its current position and goal.
+  pub start-ends : Ends (startOf s) (goalOf s)
+  start-ends = held-ends (s .n) (s .start) (s .goal) (p .few) (z .start-size) (z .goal-size) (p .start) (p .goal)
+
+  pub current-ends : Ends (currentOf s) (goalOf s)
+  current-ends = held-ends (s .n) (s .current) (s .goal) (p .few) (z .current-size) (z .goal-size) (p .current) (p .goal)
+
+  -- Its current position has n discs.
+  pub current-room : s .n ≤ length (s .current)
+  current-room = omega (arith, p .few, z .current-size)
+
+  pub current-length : length (currentOf s) ≡ s .n
+  current-length = length-take-le (s .n) (s .current) current-room
+
+-- It keeps what every session keeps.
+pub sound-kept : {s : Session} → Sound s → Kept (startOf s) (goalOf s) (currentOf s) (s .counts)
+sound-kept r = record { sum = r .sum; within = r .within; marks = r .marks }

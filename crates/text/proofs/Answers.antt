@@ -1,5 +1,5 @@
 -- What is answered to the bytes of an input, check by check.
-use Prim.Native.Nat.{ℕ, suc, _-_, _≤_}
+use Prim.Native.Nat.{ℕ, suc, _-_, _≤_, _%_}
 use mathlib.Core.Path.{_≡_, refl}
 use mathlib.Core.Bool.{Bool, true, false, cond, not, and-eq-true-iff}
 use mathlib.Core.List.{List, [], _∷_, _++_}
@@ -8,13 +8,15 @@ use native.Mathlib.Omega.{arith}
 use borrow.Author.Tests.{eq-eqb, ne-eqb, ltb-false, not-true}
 use lib.Dec.{eqb, ltb}
 use lib.ListN.{length, take, drop, length-append, length-take, length-drop}
-use lib.Seq.{sets, sets-eq, take-at, drop-at, take-append-seam}
-use Rattle.board.specs.Task.{discs, start, goal, taskVerdict}
-use Rattle.board.specs.declared.refusal.Refusal.the-variants.{OddLength, BadText}
+use lib.Seq.{sets, sets-eq, take-append-seam}
+use Rattle.board.specs.Position.{wellFormed}
+use Rattle.board.specs.Reply.{Reply, _>>_, check}
+use Rattle.board.specs.Task.{limit, taskCheck}
+use Rattle.board.proofs.Tasks.{joined-task}
 use Rattle.text.specs.Input.{most, newline}
 use Rattle.text.specs.Reading.{isDigit, isText, digits, lineEnd, startIn, goalIn}
-use Rattle.text.specs.Report.{reportText}
-use Rattle.text.specs.Answer.{textVerdict, answerText, refusedText, reportOr}
+use Rattle.text.specs.Answer.{textAnswer, answerText, answeredPage, refusedText}
+use Rattle.text.specs.Inner.Page.{taskText}
 
 -- A text has at most 512 bytes: so its digits have room.
 pub text-fits : (b : List ℕ) → isText b ≡ true → length b ≤ most
@@ -62,25 +64,41 @@ pub put-read : (page t : List ℕ) → length t ≤ length page → take (length
 put-read page t room = rw (sets-eq t page 0 (omega arith)) (take-append-seam t _)
 
 -- Other text is refused with 12.
-pub other-text : (b : List ℕ) → isText b ≡ false → answerText b ≡ refusedText BadText
-unfolding answerText textVerdict
+pub other-text : (b : List ℕ) → isText b ≡ false → answerText b ≡ refusedText 12
+unfolding answerText textAnswer
 other-text b h = rw h
 
 -- Unequal counts are refused with 1.
-pub unequal : (b : List ℕ) → isText b ≡ true → length (startIn b) ≢ length (goalIn b) → answerText b ≡ refusedText OddLength
-unfolding answerText textVerdict
+pub unequal : (b : List ℕ) → isText b ≡ true → length (startIn b) ≢ length (goalIn b) → answerText b ≡ refusedText 1
+unfolding answerText textAnswer
 unequal b h n = rw (h, ne-eqb _ _ n)
 
--- Two positions of one size are a task.
-pub equal-task : (s t : List ℕ) → length s ≡ length t → (start (s ++ t) ≡ s) × (goal (s ++ t) ≡ t)
-equal-task s t e =
-    let half : discs (s ++ t) ≡ length s = omega (arith, length-append s t) in
-    (rw half (take-at s t (length s) refl), rw half (drop-at s t (length s) refl))
+-- Two positions of one size are checked as their task is.
+joined-check : {A : Type 0} (s g : List ℕ) (r : Reply A) → length s ≡ length g
+    → (taskCheck (s ++ g) >> r) ≡ (check (ltb limit (length s)) 2 >> check (not (wellFormed (s ++ g))) 3 >> r)
+unfolding taskCheck
+joined-check s g r e =
+    let even : length (s ++ g) % 2 ≢ 1 = λ f. omega (arith, length-append s g) in
+    rw (ne-eqb (length (s ++ g) % 2) 1 even, joined-task s g e .0) (by (ltb limit (length s)))
+  where
+    by : (many : Bool) → ((check many 2 >> check (not (wellFormed (s ++ g))) 3) >> r) ≡ (check many 2 >> check (not (wellFormed (s ++ g))) 3 >> r)
+    by true = refl
+    by false = refl
 
--- A task is answered as its verdict says.
-pub equal : (b : List ℕ) → isText b ≡ true → length (startIn b) ≡ length (goalIn b)
-    → answerText b ≡ reportOr (taskVerdict (startIn b ++ goalIn b)) (reportText (start (startIn b ++ goalIn b)) (goal (startIn b ++ goalIn b)))
-unfolding answerText textVerdict
+-- A task is answered as it is put.
+pub equal : (b : List ℕ) → isText b ≡ true → length (startIn b) ≡ length (goalIn b) → answerText b ≡ taskText (startIn b ++ goalIn b)
+unfolding answerText textAnswer taskText
 equal b h e =
-    let (first, second) = equal-task (startIn b) (goalIn b) e in
-    rw (h, eq-eqb _ _ e, first, second)
+    let (_, first, second) = joined-task (startIn b) (goalIn b) e in
+    rw (h, eq-eqb _ _ e, joined-check (startIn b) (goalIn b) _ e, first, second)
+
+-- The answer ends on the page that it is put onto.
+pub answer-within : (b page : List ℕ) → length (answerText b) ≤ length (answeredPage b page)
+unfolding answeredPage
+answer-within b page =
+    omega (arith, length-append (answerText b) (drop (length (answerText b)) page))
+
+-- It is what is read at the start of the page.
+pub answer-read : (b page : List ℕ) → take (length (answerText b)) (answeredPage b page) ≡ answerText b
+unfolding answeredPage
+answer-read b page = take-append-seam (answerText b) (drop (length (answerText b)) page)

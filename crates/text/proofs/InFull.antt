@@ -5,15 +5,14 @@ use Prim.Native.Nat.{ℕ}
 use Prim.Native.Char.{code}
 use Rattle.board.specs.Peg.{third}
 use Rattle.board.specs.Position.{wellFormed}
-use Rattle.board.specs.Task.{taskVerdict}
 use Rattle.plan.specs.Gather.{gather}
 use Rattle.plan.specs.Plan.{largest, direct, detour, wayOf, planBy, planOf}
 use Rattle.route.specs.Route.{gathering, backwards, spreading, directRoute, detourRoute, routeBy, routeOf}
 use Rattle.text.specs.Input.{space, furtherText, lineText}
 use Rattle.text.specs.Reading.{isDigit, follow, followAll, lines, isText, digits, lineEnd, startIn, goalIn}
 use Rattle.text.specs.Decimal.{decimalBy, decimal}
-use Rattle.text.specs.Report.{line, discsWord, directWord, detourWord, shortestWord, routesWord, movesText, routeText, routeLines, headText, reportText}
-use Rattle.text.specs.Answer.{textVerdict, answerText}
+use Rattle.text.specs.Report.{line, discsLabel, directLabel, detourLabel, shortestLabel, routesLabel, movesText, routeText, routeLines, headText, reportText}
+use Rattle.text.specs.Answer.{textAnswer, answerText}
 
 -- The input [1, 0] and [0, 1].
 pub input : List ℕ
@@ -26,15 +25,15 @@ step from to = space ∷ from ∷ to ∷ []
 -- What document 01 prints for it.
 pub report : List ℕ
 report =
-    line discsWord (code "2" ∷ [])
-    ++ line directWord (code "3" ∷ [])
-    ++ line detourWord (code "3" ∷ [])
-    ++ line shortestWord (code "3" ∷ [])
-    ++ line routesWord (code "2" ∷ [])
+    line discsLabel (code "2" ∷ [])
+    ++ line directLabel (code "3" ∷ [])
+    ++ line detourLabel (code "3" ∷ [])
+    ++ line shortestLabel (code "3" ∷ [])
+    ++ line routesLabel (code "2" ∷ [])
     ++ line (code "0" ∷ []) (step (code "B") (code "C") ++ step (code "A") (code "B") ++ step (code "C") (code "A"))
     ++ line (code "1" ∷ []) (step (code "A") (code "C") ++ step (code "B") (code "A") ++ step (code "C") (code "B"))
 
 -- The rules print it.
 pub in-full : answerText input ≡ report
-unfolding input report third wellFormed taskVerdict gather largest direct detour wayOf planBy planOf gathering backwards spreading directRoute detourRoute routeBy routeOf furtherText lineText isDigit follow followAll lines isText digits lineEnd startIn goalIn decimalBy decimal movesText routeText routeLines headText reportText textVerdict answerText
+unfolding input report third wellFormed gather largest direct detour wayOf planBy planOf gathering backwards spreading directRoute detourRoute routeBy routeOf furtherText lineText isDigit follow followAll lines isText digits lineEnd startIn goalIn decimalBy decimal movesText routeText routeLines headText reportText textAnswer answerText
 in-full = refl

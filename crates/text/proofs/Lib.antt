@@ -5,4 +5,5 @@ pub mod Page
 pub mod Numbers
 pub mod Runs
 pub mod Answers
+pub mod Obeys
 pub mod InFull

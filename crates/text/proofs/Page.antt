@@ -9,7 +9,7 @@ use lib.ListN.{length, getD, set, take, drop, length-append, length-take, drop-o
 use lib.Seq.{sets, sets-eq, drop-cons, getD-take, length-take-le}
 use Rattle.run.proofs.Letters.{sets-append}
 use Rattle.text.specs.Input.{space}
-use Rattle.text.specs.Page.{Puts, spaced}
+use Rattle.text.specs.Inner.Page.{Puts, spaced}
 
 -- Putting the bytes from i on is putting the byte at i and then those after it: one step of a loop that puts.
 pub sets-past : (page bytes : List ℕ) (at i : ℕ) → i < length bytes

@@ -3,37 +3,41 @@ use Prim.Native.Nat.{ℕ}
 use Prim.Native.Char.{code}
 use mathlib.Core.Bool.{not}
 use mathlib.Core.List.{List, [], _∷_, _++_}
-use lib.Dec.{eqb}
-use lib.ListN.{length}
-use Rattle.board.specs.Refusal.{number, check}
-use Rattle.board.specs.Task.{taskVerdict}
-use Rattle.board.specs.declared.refusal.Refusal.{Refusal}
-use Rattle.board.specs.declared.refusal.Refusal.the-variants.{OddLength, BadText}
-use Rattle.board.specs.declared.refusal.Verdict.{Verdict}
-use Rattle.board.specs.declared.refusal.Verdict.the-variants.{Accepted, Refused}
+use lib.Dec.{eqb, ltb}
+use lib.ListN.{length, drop}
+use Rattle.board.specs.Position.{wellFormed}
+use Rattle.board.specs.Reply.{Reply, refused, answer, _>>_, check}
+use Rattle.board.specs.Task.{limit}
+use Rattle.text.specs.Decimal.{decimal}
 use Rattle.text.specs.Input.{space}
 use Rattle.text.specs.Reading.{isText, startIn, goalIn}
-use Rattle.text.specs.Decimal.{decimal}
 use Rattle.text.specs.Report.{line, reportText}
 
--- The faults in their order: 12, other text or more bytes; 1, unequal counts; 2; 3.
-unfoldable pub textVerdict : List ℕ → Verdict
-textVerdict b =
-    check (not (isText b)) BadText
-    (check (not (eqb (length (startIn b)) (length (goalIn b)))) OddLength
-    (taskVerdict (startIn b ++ goalIn b)))
+-- 12, other text or more bytes; 1, unequal counts; 2; 3; else the report.
+unfoldable pub textAnswer : List ℕ → Reply (List ℕ)
+textAnswer b = do
+  check (not (isText b)) 12
+  check (not (eqb (length (startIn b)) (length (goalIn b)))) 1
+  check (ltb limit (length (startIn b))) 2
+  check (not (wellFormed (startIn b ++ goalIn b))) 3
+  answer (reportText (startIn b) (goalIn b))
 
-abbrev pub refusedWord : List ℕ
-refusedWord =
+abbrev pub refusedLabel : List ℕ
+refusedLabel =
     code "r" ∷ code "e" ∷ code "f" ∷ code "u" ∷ code "s" ∷ code "e" ∷ code "d" ∷ space ∷ []
 
--- The line of a refusal.
-unfoldable pub refusedText : Refusal → List ℕ
-refusedText r = line refusedWord (decimal (number r))
+-- "refused " and the number.
+unfoldable pub refusedText : ℕ → List ℕ
+refusedText k = line refusedLabel (decimal k)
 
-abbrev pub reportOr : Verdict → List ℕ → List ℕ
-reportOr Accepted t = t
-reportOr (Refused r) t = refusedText r
+abbrev pub printed : Reply (List ℕ) → List ℕ
+printed (refused k) = refusedText k
+printed (answer t) = t
 
+-- What is printed.
 unfoldable pub answerText : List ℕ → List ℕ
-answerText b = reportOr (textVerdict b) (reportText (startIn b) (goalIn b))
+answerText b = printed (textAnswer b)
+
+-- A page that it is put onto: the answer, and then the page's own bytes.
+unfoldable pub answeredPage : List ℕ → List ℕ → List ℕ
+answeredPage b page = answerText b ++ drop (length (answerText b)) page

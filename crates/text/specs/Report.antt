@@ -16,21 +16,21 @@ use Rattle.text.specs.Input.{newline, space}
 use Rattle.text.specs.Decimal.{decimal}
 
 -- The words that begin the lines.
-abbrev pub discsWord : List ℕ
-discsWord = code "d" ∷ code "i" ∷ code "s" ∷ code "c" ∷ code "s" ∷ space ∷ []
+abbrev pub discsLabel : List ℕ
+discsLabel = code "d" ∷ code "i" ∷ code "s" ∷ code "c" ∷ code "s" ∷ space ∷ []
 
-abbrev pub directWord : List ℕ
-directWord = code "d" ∷ code "i" ∷ code "r" ∷ code "e" ∷ code "c" ∷ code "t" ∷ space ∷ []
+abbrev pub directLabel : List ℕ
+directLabel = code "d" ∷ code "i" ∷ code "r" ∷ code "e" ∷ code "c" ∷ code "t" ∷ space ∷ []
 
-abbrev pub detourWord : List ℕ
-detourWord = code "d" ∷ code "e" ∷ code "t" ∷ code "o" ∷ code "u" ∷ code "r" ∷ space ∷ []
+abbrev pub detourLabel : List ℕ
+detourLabel = code "d" ∷ code "e" ∷ code "t" ∷ code "o" ∷ code "u" ∷ code "r" ∷ space ∷ []
 
-abbrev pub shortestWord : List ℕ
-shortestWord =
+abbrev pub shortestLabel : List ℕ
+shortestLabel =
     code "s" ∷ code "h" ∷ code "o" ∷ code "r" ∷ code "t" ∷ code "e" ∷ code "s" ∷ code "t" ∷ space ∷ []
 
-abbrev pub routesWord : List ℕ
-routesWord = code "r" ∷ code "o" ∷ code "u" ∷ code "t" ∷ code "e" ∷ code "s" ∷ space ∷ []
+abbrev pub routesLabel : List ℕ
+routesLabel = code "r" ∷ code "o" ∷ code "u" ∷ code "t" ∷ code "e" ∷ code "s" ∷ space ∷ []
 
 -- What stands for the length of a plan that there is not, and for a route that is too long to print.
 abbrev pub dash : List ℕ
@@ -58,7 +58,7 @@ detourText (Tie l) = decimal (l .detour)
 
 -- Their lines.
 abbrev pub lengthLines : Way → List ℕ
-lengthLines w = line directWord (directText w) ++ line detourWord (detourText w)
+lengthLines w = line directLabel (directText w) ++ line detourLabel (detourText w)
 
 -- Moves, each a space and two letters.
 unfoldable pub movesText : List DiscMove → List ℕ
@@ -85,10 +85,10 @@ routeLines s t (suc k) = routeLines s t k ++ routeLine k (routeOf s t k)
 -- The lines above the routes: n; the two plan lengths; the fewest; how many shortest routes.
 unfoldable pub headText : Plan → List ℕ
 headText p =
-    line discsWord (decimal (p .discs))
+    line discsLabel (decimal (p .discs))
     ++ (lengthLines (p .way)
-    ++ (line shortestWord (decimal (shortest p))
-    ++ line routesWord (decimal (routes p))))
+    ++ (line shortestLabel (decimal (shortest p))
+    ++ line routesLabel (decimal (routes p))))
 
 -- The report of the task from s to t.
 unfoldable pub reportText : List ℕ → List ℕ → List ℕ

@@ -3,18 +3,19 @@ mod put;
 mod read;
 mod report;
 
+ghost use mathlib.Core.Path.{_≡_};
 ghost use Prim.Native.Nat.{_≤_};
-ghost use Rattle.board.specs.Task.{start, goal, taskVerdict};
-ghost use Rattle.text.specs.Answer.{answerText, refusedText, reportOr};
-ghost use Rattle.text.specs.Page.{Puts};
-ghost use Rattle.text.specs.Report.{reportText};
-use board::refusal::Refusal;
-use plan::answer::Planned;
+ghost use lib.ListN.{length};
+ghost use Rattle.board.specs.Refusal.{number};
+ghost use Rattle.text.specs.Answer.{answerText, answeredPage, refusedText};
+ghost use Rattle.text.specs.Inner.Page.{Puts, taskText};
+use board::Refusal;
+use plan::Planned;
 use put::Page;
 
 // Puts the line of a refusal at the start of a page.
 fn put_refusal(page: &mut Page, why: Refusal) -> usize
-    ensures { λ r. ⌜ Puts (now (page .entry)) 0 (refusedText why) (now (page .exit)) r ⌝ }
+    ensures { λ r. ⌜ Puts (now (page .entry)) 0 (refusedText (number why)) (now (page .exit)) r ⌝ }
     ensures { λ r. ⌜ r ≤ 8192 ⌝ }
 {
     put::put_line(page, 0, b"refused ", why.number())
@@ -22,7 +23,7 @@ fn put_refusal(page: &mut Page, why: Refusal) -> usize
 
 // Puts the answer to a task: its report, or its refusal with 2 or 3.
 fn put_task(page: &mut Page, task: &[u8]) -> usize
-    ensures { λ r. ⌜ Puts (now (page .entry)) 0 (reportOr (taskVerdict (now (task .entry))) (reportText (start (now (task .entry))) (goal (now (task .entry))))) (now (page .exit)) r ⌝ }
+    ensures { λ r. ⌜ Puts (now (page .entry)) 0 (taskText (now (task .entry))) (now (page .exit)) r ⌝ }
     ensures { λ r. ⌜ r ≤ 8192 ⌝ }
 {
     match plan::plan(task) {
@@ -31,9 +32,8 @@ fn put_task(page: &mut Page, task: &[u8]) -> usize
     }
 }
 
-// The task program: puts the answer to the bytes of its standard input at the start of a page, and says how long it is. The other bytes
-// stay. Refuses with 12, 1, 2 and 3.
-pub fn answer(input: &[u8], page: &mut Page) -> usize
+// Puts the answer to the bytes of an input at the start of a page, and says how long it is.
+fn put_answer(input: &[u8], page: &mut Page) -> usize
     ensures { λ r. ⌜ Puts (now (page .entry)) 0 (answerText (now (input .entry))) (now (page .exit)) r ⌝ }
     ensures { λ r. ⌜ r ≤ 8192 ⌝ }
 {
@@ -47,4 +47,16 @@ pub fn answer(input: &[u8], page: &mut Page) -> usize
         return put_refusal(page, Refusal::OddLength);
     }
     put_task(page, &task[..all])
+}
+
+// The task program: puts the answer to the bytes of its standard input at the start of a page, and says how long it is. The other bytes
+// stay. Refuses with 12, 1, 2 and 3. It is made on a page of its own and copied, so that the lent page is written once.
+pub fn answer(input: &[u8], page: &mut Page) -> usize
+    ensures { λ r. ⌜ r ≡ length (answerText (now (input .entry))) ⌝ }
+    ensures { λ _. ⌜ now (page .exit) ≡ answeredPage (now (input .entry)) (now (page .entry)) ⌝ }
+    ensures { λ r. ⌜ r ≤ 8192 ⌝ }
+{
+    let mut own: Page = [0; 8192];
+    let end = put_answer(input, &mut own);
+    bytes::copy(&own[..end], page)
 }

@@ -2,7 +2,7 @@
 ghost use Prim.Native.Nat.{_+_, _≤_};
 ghost use lib.ListN.{length};
 ghost use Rattle.text.specs.Decimal.{decimal};
-ghost use Rattle.text.specs.Page.{Puts};
+ghost use Rattle.text.specs.Inner.Page.{Puts};
 ghost use Rattle.text.specs.Report.{line};
 
 // Room for every answer: the longest, of two routes of 1,000 moves, is below 6,400 bytes.

@@ -6,7 +6,7 @@ ghost use Prim.Native.Nat.{_+_, _≤_};
 ghost use lib.ListN.{length};
 ghost use Rattle.text.specs.Input.{most};
 ghost use Rattle.text.specs.Reading.{isDigit, follow, isBracket, isText, digits as digitsOf, lineEnd, startIn, goalIn};
-ghost use Rattle.text.specs.Page.{Puts};
+ghost use Rattle.text.specs.Inner.Page.{Puts};
 ghost use Rattle.text.specs.declared.read.Next.the-variants.{Nothing};
 
 // The most bytes of a text.

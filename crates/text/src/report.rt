@@ -3,21 +3,21 @@ ghost use mathlib.Core.List.{_++_};
 ghost use mathlib.Core.Path.{_≡_};
 ghost use Prim.Native.Nat.{_+_, _*_, _<_, _≤_};
 ghost use lib.ListN.{length, take};
-ghost use Rattle.board.specs.Task.{start, goal, taskVerdict};
-ghost use Rattle.board.specs.declared.refusal.Verdict.the-variants.{Accepted};
+ghost use Rattle.board.specs.Reply.{pass};
+ghost use Rattle.board.specs.Task.{start, goal, taskCheck};
 ghost use Rattle.plan.specs.Plan.{planOf, routes};
 ghost use Rattle.route.specs.Answer.{lengthOf, countOf, taskRoute};
 ghost use Rattle.text.specs.Decimal.{decimal};
-ghost use Rattle.text.specs.Page.{Puts, spaced};
-ghost use Rattle.text.specs.Report.{line, directWord, detourWord, lengthLines, headText, routeText, routeLine, routeLines, reportText};
+ghost use Rattle.text.specs.Inner.Page.{Puts, spaced};
+ghost use Rattle.text.specs.Report.{line, directLabel, detourLabel, lengthLines, headText, routeText, routeLine, routeLines, reportText};
 use crate::put::Page;
 use crate::put::put;
 use crate::put::put_decimal;
 use crate::put::put_line;
-use plan::answer::Lengths;
-use plan::answer::Plan;
-use plan::answer::Way;
-use route::answer::Ran;
+use plan::Lengths;
+use plan::Plan;
+use plan::Way;
+use route::Ran;
 
 // The most moves of a route that is printed.
 const MOST_MOVES: u64 = 1000;
@@ -25,7 +25,7 @@ const MOST_MOVES: u64 = 1000;
 // Puts the two plan lengths.
 fn put_both(page: &mut Page, at: usize, lengths: Lengths) -> usize
     requires { ⌜ at + 56 ≤ 8192 ⌝ }
-    ensures { λ r. ⌜ Puts (now (page .entry)) at (line directWord (decimal (lengths .direct)) ++ line detourWord (decimal (lengths .detour))) (now (page .exit)) r ⌝ }
+    ensures { λ r. ⌜ Puts (now (page .entry)) at (line directLabel (decimal (lengths .direct)) ++ line detourLabel (decimal (lengths .detour))) (now (page .exit)) r ⌝ }
     ensures { λ r. ⌜ r ≤ at + 56 ⌝ }
 {
     let next = put_line(page, at, b"direct ", lengths.direct);
@@ -79,7 +79,7 @@ fn put_moves(page: &mut Page, at: usize, letters: &[u8], count: usize) -> usize
 // Puts the moves of a route, or the word long.
 fn put_route(page: &mut Page, at: usize, task: &[u8], route: u64, moves: u64) -> usize
     requires { ⌜ at + 3000 ≤ 8192 ⌝ }
-    requires { ⌜ (taskVerdict (now task) ≡ Accepted) × (route < countOf (now task)) × (moves ≡ lengthOf (now task)) ⌝ }
+    requires { ⌜ (taskCheck (now task) ≡ pass) × (route < countOf (now task)) × (moves ≡ lengthOf (now task)) ⌝ }
     ensures { λ r. ⌜ Puts (now (page .entry)) at (routeText (taskRoute (now (task .entry)) route)) (now (page .exit)) r ⌝ }
     ensures { λ r. ⌜ r ≤ at + 3000 ⌝ }
 {
@@ -96,7 +96,7 @@ fn put_route(page: &mut Page, at: usize, task: &[u8], route: u64, moves: u64) ->
 // Puts the line of a route.
 fn put_route_line(page: &mut Page, at: usize, task: &[u8], route: u64, moves: u64) -> usize
     requires { ⌜ at + 3021 ≤ 8192 ⌝ }
-    requires { ⌜ (taskVerdict (now task) ≡ Accepted) × (route < countOf (now task)) × (moves ≡ lengthOf (now task)) ⌝ }
+    requires { ⌜ (taskCheck (now task) ≡ pass) × (route < countOf (now task)) × (moves ≡ lengthOf (now task)) ⌝ }
     ensures { λ r. ⌜ Puts (now (page .entry)) at (routeLine route (taskRoute (now (task .entry)) route)) (now (page .exit)) r ⌝ }
     ensures { λ r. ⌜ r ≤ at + 3021 ⌝ }
 {
@@ -107,7 +107,7 @@ fn put_route_line(page: &mut Page, at: usize, task: &[u8], route: u64, moves: u6
 
 // Puts the report of a task at the start of a page.
 pub fn put_report(page: &mut Page, task: &[u8], p: Plan) -> usize
-    requires { ⌜ (taskVerdict (now task) ≡ Accepted) × (p ≡ planOf (start (now task)) (goal (now task))) ⌝ }
+    requires { ⌜ (taskCheck (now task) ≡ pass) × (p ≡ planOf (start (now task)) (goal (now task))) ⌝ }
     ensures { λ r. ⌜ Puts (now (page .entry)) 0 (reportText (start (now (task .entry))) (goal (now (task .entry)))) (now (page .exit)) r ⌝ }
     ensures { λ r. ⌜ r ≤ 8192 ⌝ }
 {

@@ -1,71 +1,83 @@
--- No answer's word is a refusal's word: answers stay below 2 ^ 60, and refusals are among the last twelve numbers below 2 ^ 64.
-use Prim.Native.Nat.{ℕ, _-_, _≤_, _<_, _^_}
-use mathlib.Core.Path.{_≡_}
-use mathlib.Core.Bool.{not}
-use mathlib.Core.List.{List}
+-- Each number that C gets tells its reply: no answer is taken for a refusal, nor one refusal for another.
+use Prim.Native.Nat.{ℕ, _≤_, _<_, _^_}
+use mathlib.Core.List.{List, [], _∷_}
+use mathlib.Core.Logic.{inl, inr}
+use mathlib.Core.Path.{_≡_, refl, sym}
 use native.Mathlib.Omega.{arith}
-use lib.ListN.{length}
-use borrow.Author.Tests.{ltb-true, not-false}
-use lib.Dec.{ltb}
-use Rattle.board.specs.Refusal.{number, check}
-use Rattle.board.specs.Position.{peg}
-use Rattle.board.specs.Task.{limit, start, goal, taskVerdict, positionVerdict}
+use Rattle.board.specs.Fault.{Fault, First, taskFaults}
+use Rattle.board.specs.Refusal.{number}
+use Rattle.board.specs.Reply.{Reply, refused, answer}
+use Rattle.board.specs.Task.{limit, start, goal}
 use Rattle.board.specs.declared.refusal.Refusal.{Refusal}
 use Rattle.board.specs.declared.refusal.Refusal.the-variants as refusal
-use Rattle.board.specs.declared.refusal.Verdict.the-variants.{Accepted}
-use Rattle.board.proofs.Accepted.{task-accepted, position-accepted, check-accepted, both-accepted}
-use Rattle.plan.specs.Answer.{gatherVerdict, gatherAnswer, planAnswer}
-use Rattle.plan.specs.Gather.{gather}
-use Rattle.plan.specs.Plan.{routesWay}
-use Rattle.plan.specs.declared.answer.Gathered.the-variants as gathered
-use Rattle.plan.specs.declared.answer.Plan.{Plan}
-use Rattle.plan.specs.declared.answer.Planned.the-variants as planned
+use Rattle.board.proofs.Replies.{refused-answer, made-refused, made-answered}
+use Rattle.plan.specs.Answer.{gatherAnswer, planAnswer}
+use Rattle.plan.specs.Faults.{gatherFaults}
+use Rattle.plan.specs.Plan.{shortest, routes, routesWay}
 use Rattle.plan.specs.declared.answer.Way.{Way}
 use Rattle.plan.specs.declared.answer.Way.the-variants.{Still, Direct, Detour, Tie}
-use Rattle.plan.proofs.Calls.{plan-answered, length-or}
+use Rattle.plan.proofs.Calls.{plan-obeys, plan-answered, gather-obeys, gather-answered}
 use Rattle.plan.proofs.Fits.{gather-fits}
 use Rattle.plan.proofs.Sound.{task-ends, position-gatherable}
-use Rattle.route.specs.Answer.{runVerdict, runCount, runAnswer}
-use Rattle.route.specs.declared.answer.Ran.the-variants as ran
-use Rattle.route.proofs.Answers.{count-or}
-use Rattle.route.proofs.Found.{shortest-fits}
-use Rattle.towers.specs.Words.{refusalWord, gatherWord, shortestWord, routesWord, runWord}
+use Rattle.route.specs.Answer.{runAnswer}
+use Rattle.route.specs.Faults.{runFaults}
+use Rattle.route.proofs.Calls.Answers.{run-answered}
+use Rattle.route.proofs.Calls.Obeys.{run-obeys}
+use Rattle.route.proofs.Courses.Found.{shortest-fits}
+use Rattle.towers.specs.Words.{word, shortestReply, shortestWord, routesReply, routesWord, gatherWord, runWord, lastNumber, Tells}
 
 -- The refusals have the numbers 1 to 12.
-pub number-between : (r : Refusal) → (1 ≤ number r) × (number r ≤ 12)
-number-between refusal.OddLength = (omega arith, omega arith)
-number-between refusal.TooManyDiscs = (omega arith, omega arith)
-number-between refusal.NotAPeg = (omega arith, omega arith)
-number-between refusal.NoSuchRoute = (omega arith, omega arith)
-number-between refusal.NoSuchIndex = (omega arith, omega arith)
-number-between refusal.ShortBuffer = (omega arith, omega arith)
-number-between refusal.WrongSize = (omega arith, omega arith)
-number-between refusal.NoDisc = (omega arith, omega arith)
-number-between refusal.SmallerInTheWay = (omega arith, omega arith)
-number-between refusal.UnsoundRecord = (omega arith, omega arith)
-number-between refusal.TooManyPlays = (omega arith, omega arith)
-number-between refusal.BadText = (omega arith, omega arith)
+pub number-between : (r : Refusal) → (1 ≤ number r) × (number r ≤ lastNumber)
+number-between refusal.OddLength = omega arith
+number-between refusal.TooManyDiscs = omega arith
+number-between refusal.NotAPeg = omega arith
+number-between refusal.NoSuchRoute = omega arith
+number-between refusal.NoSuchIndex = omega arith
+number-between refusal.ShortBuffer = omega arith
+number-between refusal.WrongSize = omega arith
+number-between refusal.NoDisc = omega arith
+number-between refusal.SmallerInTheWay = omega arith
+number-between refusal.UnsoundRecord = omega arith
+number-between refusal.TooManyPlays = omega arith
+number-between refusal.BadText = omega arith
 
--- A refusal's word is one of the last twelve numbers of 64 bits.
-pub refusal-high : (r : Refusal) → 2 ^ 64 - 12 ≤ refusalWord r
-unfolding refusalWord
-refusal-high r = omega (arith, number-between r)
+-- All numbers of a list of faults are among them.
+abbrev Numbered : List Fault → Type 0
+Numbered [] = Unit {0}
+Numbered (f ∷ fs) = (1 ≤ f .number) × (f .number ≤ lastNumber) × Numbered fs
 
--- It fits 64 bits.
-pub refusal-fits : (r : Refusal) → refusalWord r < 2 ^ 64
-unfolding refusalWord
-refusal-fits r = omega (arith, number-between r)
+-- So the number of the first fault is.
+first-numbered : (fs : List Fault) (k : ℕ) → Numbered fs → First fs k → (1 ≤ k) × (k ≤ lastNumber)
+first-numbered [] k n h = absurd h
+first-numbered (f ∷ fs) k n (inl h) = omega (arith, h .1)
+first-numbered (f ∷ fs) k n (inr h) = first-numbered fs k (n .2) (h .1)
 
--- Its distance from 2 ^ 64 is the refusal's number, so different numbers come as different words.
-pub refusal-read : (r : Refusal) → 2 ^ 64 - refusalWord r ≡ number r
-unfolding refusalWord
-refusal-read r = omega (arith, number-between r)
+-- A reply whose refusals have such numbers and whose answers are below 2 ^ 60 is told by its word.
+word-tells : (r : Reply ℕ) → ((k : ℕ) → r ≡ refused k → (1 ≤ k) × (k ≤ lastNumber)) → ((n : ℕ) → r ≡ answer n → n < 2 ^ limit) → Tells (word r) r
+word-tells (refused j) numbers small =
+    let mine = numbers j refl in
+    record {
+      refuses = λ k low high. ((λ e. let same : j ≡ k = omega arith in λ i. refused (same i)), λ e. let same : j ≡ k = cc in rw same);
+      answers = λ n e. absurd (refused-answer e);
+    }
+word-tells (answer m) numbers small =
+    let mine = small m refl in
+    record {
+      refuses = λ k low high. ((λ e. absurd (omega arith)), λ e. absurd (refused-answer (sym e)));
+      answers = λ n e. let same : m ≡ n = cc in (same, small n e);
+    }
 
--- The word of a plan's length is below 2 ^ 60.
-pub shortest-apart : (t : List ℕ) (p : Plan) → planAnswer t ≡ planned.Plan p → shortestWord (planAnswer t) < 2 ^ limit
-shortest-apart t p e =
-    let (s, same) = plan-answered t p e in
-    rw (e, ← same) (shortest-fits (start t) (goal t) (task-ends s))
+-- What Plan refuses has such a number.
+plan-numbers : (t : List ℕ) (k : ℕ) → planAnswer t ≡ refused k → (1 ≤ k) × (k ≤ lastNumber)
+plan-numbers t k e = first-numbered (taskFaults t) k (omega arith) (plan-obeys t .refuses k .0 e)
+
+-- The shortest length.
+pub shortest-tells : (t : List ℕ) → Tells (shortestWord t) (shortestReply t)
+shortest-tells t =
+    word-tells (shortestReply t) (λ k e. plan-numbers t k (made-refused (planAnswer t) shortest e))
+    (λ n e. let (p, answered, same) = made-answered (planAnswer t) shortest e in
+    let o = plan-answered t answered in
+    rw (← same, ← o .plan) (shortest-fits (start t) (goal t) (task-ends (o .sound))))
 
 -- A way has one shortest route or two.
 way-few : (w : Way) → routesWay w ≤ 2
@@ -74,28 +86,21 @@ way-few (Direct l) = omega arith
 way-few (Detour l) = omega arith
 way-few (Tie l) = omega arith
 
--- The word of a plan's count is at most 2, so it is below 2 ^ 60 too.
-pub routes-apart : (t : List ℕ) (p : Plan) → planAnswer t ≡ planned.Plan p → routesWord (planAnswer t) ≤ 2
-routes-apart t p e = rw e (way-few (p .way))
+-- The count of routes.
+pub routes-tells : (t : List ℕ) → Tells (routesWord t) (routesReply t)
+routes-tells t =
+    word-tells (routesReply t) (λ k e. plan-numbers t k (made-refused (planAnswer t) routes e))
+    (λ n e. let (p, answered, same) = made-answered (planAnswer t) routes e in omega (arith, way-few (p .way)))
 
--- The word of Gather's length is below 2 ^ 60.
-pub gather-apart : (p : List ℕ) (j k : ℕ) → gatherAnswer p j ≡ gathered.Length k → gatherWord (gatherAnswer p j) < 2 ^ limit
-unfolding gatherAnswer gatherVerdict
-gather-apart p j k e =
-    let (v, n) = length-or (gatherVerdict p j) (gather (peg p) (length p) j) k e in
-    let (position, target) = both-accepted (positionVerdict p) (check (not (ltb j 3)) refusal.NotAPeg Accepted) v in
-    let hj = ltb-true j 3 (not-false (ltb j 3) (check-accepted (not (ltb j 3)) refusal.NotAPeg Accepted target .0)) in
-    rw (e, ← n) (gather-fits (position-gatherable (position-accepted p position) hj))
+-- Gather's length.
+pub gather-tells : (p : List ℕ) (j : ℕ) → Tells (gatherWord p j) (gatherAnswer p j)
+gather-tells p j =
+    word-tells (gatherAnswer p j) (λ k e. first-numbered (gatherFaults p j) k (omega arith) (gather-obeys p j .refuses k .0 e))
+    (λ n e. let s = gather-answered p j e in rw (s .rule) (gather-fits (position-gatherable (s .sound) (s .target))))
 
--- The word of Run's count is below 2 ^ 60, however long the buffer is.
-pub run-apart : (t : List ℕ) (r i : ℕ) (out : List ℕ) (k : ℕ) → runAnswer t r i out ≡ ran.Moves k
-    → runWord (runAnswer t r i out) < 2 ^ limit
-unfolding runAnswer runVerdict runCount
-run-apart t r i out k e =
-    let (v, n) = count-or (runVerdict t r i out) (runCount t i out) k e in
-    let (task, rest) = both-accepted (taskVerdict t) _ v in
-    rw e (omega (arith, n, shortest-fits (start t) (goal t) (task-ends (task-accepted t task))))
-
--- A word below 2 ^ 60 is no refusal's.
-pub never-both : (word : ℕ) (r : Refusal) → word < 2 ^ limit → word ≡ refusalWord r → ⊥
-never-both word r low same = omega (arith, refusal-high r)
+-- Run's count, however long the buffer is.
+pub run-tells : (t : List ℕ) (r i : ℕ) (out : List ℕ) → Tells (runWord t r i out) (runAnswer t r i out)
+run-tells t r i out =
+    word-tells (runAnswer t r i out) (λ k e. first-numbered (runFaults t r i out) k (omega arith) (run-obeys t r i out .refuses k .0 e))
+    (λ n e. let ran = run-answered t r i out e in
+    omega (arith, ran .count, shortest-fits (start t) (goal t) (task-ends (ran .routed .sound))))

@@ -1,9 +1,10 @@
 -- `plan::gather` meets its contract: at each return the verdict and the test of the peg are those of the rule. Assumes nothing.
-use mathlib.Core.Path.{_∙_, sym}
+use mathlib.Core.Path.{_∙_, sym, ap}
 use borrow.Author.Needs.{needs}
 use borrow.Author.Tests.{lt-ltb, le-ltb}
-use Rattle.board.proofs.Accepted.{position-accepted}
-use Rattle.plan.specs.Answer.{gatherVerdict, gatherAnswer}
+use Rattle.board.specs.Refusal.{verdictReply}
+use Rattle.board.proofs.Tasks.{position-accepted}
+use Rattle.plan.specs.Answer.{gatherAnswer}
 use Rattle.plan.proofs.Sound.{position-gatherable}
 use Rattle.plan.proofs.gather.Statement.{statement}
 use Rattle.plan.proofs.gather.Tie as tie
@@ -20,16 +21,16 @@ enum-told c = search needs
 gather-discs-requires : tie.Need-gather-discs-requires
 gather-discs-requires c κs =
     let verdict = c .before .before .before .position-verdict .ensures in
-    position-gatherable (position-accepted _ (sym verdict ∙ c .before .enum-told .given .1)) (c .if1 .taken)
+    position-gatherable (position-accepted _ (sym verdict ∙ ap verdictReply (c .before .enum-told .given .1))) (c .if1 .taken)
 
 -- The position is refused.
 returns : tie.Need-returns
-unfolding gatherAnswer gatherVerdict
+unfolding gatherAnswer
 returns c = rw (← c .before .before .before .position-verdict .ensures, c .before .why .given .1)
 
 -- The position and the peg are accepted.
 returns-2 : tie.Need-returns-2
-unfolding gatherAnswer gatherVerdict
+unfolding gatherAnswer
 returns-2 c =
     rw (
       ← c .before .before .before .before .position-verdict .ensures,
@@ -40,7 +41,7 @@ returns-2 c =
 
 -- The position is accepted, and the peg is none.
 returns-3 : tie.Need-returns-3
-unfolding gatherAnswer gatherVerdict
+unfolding gatherAnswer
 returns-3 c =
     rw (← c .before .before .before .position-verdict .ensures, c .before .enum-told .given .1, le-ltb _ _ (c .if1 .left))
 

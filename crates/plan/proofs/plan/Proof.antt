@@ -1,10 +1,11 @@
 -- `plan::plan` meets its contract: at each return the verdict is that of the rule, and the halves of an accepted task are its ends.
 -- Assumes nothing.
-use mathlib.Core.Path.{_∙_, sym}
+use mathlib.Core.Path.{_∙_, sym, ap}
 use native.Mathlib.Omega.{arith}
 use lib.ListN.{length-take}
 use borrow.Author.Needs.{needs}
-use Rattle.board.proofs.Accepted.{task-accepted}
+use Rattle.board.specs.Refusal.{verdictReply}
+use Rattle.board.proofs.Tasks.{task-accepted}
 use Rattle.plan.specs.Answer.{planAnswer}
 use Rattle.plan.proofs.Parts.{part-to-end}
 use Rattle.plan.proofs.Sound.{task-ends}
@@ -35,7 +36,7 @@ part-plan-between-end c = search needs
 plan-between-requires : tie.Need-plan-between-requires
 plan-between-requires c κs =
     let verdict = c .before .before .before .before .task-verdict .ensures in
-    rw part-to-end (task-ends (task-accepted _ (sym verdict ∙ c .before .before .enum-told .given .1)))
+    rw part-to-end (task-ends (task-accepted _ (sym verdict ∙ ap verdictReply (c .before .before .enum-told .given .1))))
 
 -- The task is refused.
 returns : tie.Need-returns

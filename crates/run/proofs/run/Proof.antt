@@ -1,29 +1,29 @@
--- `run::run` meets its contract: Plan's answer gives the task faults and the plan, on which the other checks are made, and the bytes
--- written are the letters of the moves. Assumes nothing.
-use mathlib.Core.Bool.{_&&_}
+-- `run::run` meets its contract: the plan is opened for the route, the first index and the buffer are checked, and the bytes written are
+-- the letters of the moves. Assumes nothing.
+use Prim.Native.Nat.{_≤_, _<_}
 use mathlib.Core.Logic.{⊎-elim}
-use mathlib.Core.Path.{_≡_, _∙_, refl, sym}
+use mathlib.Core.Path.{_∙_, refl, sym, ap}
 use native.Mathlib.Omega.{arith}
 use borrow.Author.Needs.{needs}
-use borrow.Author.Tests.{lt-ltb, le-ltb}
-use lib.Dec.{ltb}
+use borrow.Author.Tests.{lt-ltb, le-ltb, ltb-false}
 use lib.ListN.{length, length-take}
-use Rattle.board.specs.Refusal.{check}
-use Rattle.board.specs.declared.refusal.Refusal.the-variants.{ShortBuffer}
-use Rattle.board.specs.declared.refusal.Verdict.the-variants.{Accepted}
+use Rattle.plan.specs.Answer.{planReply}
 use Rattle.plan.proofs.Parts.{part-to-end}
 use Rattle.plan.proofs.Sound.{task-ends}
-use Rattle.route.specs.Answer.{runVerdict, runCount, runAnswer, runWrites}
-use Rattle.route.proofs.Opened.{Opened, opened-refused, opened-plan}
+use Rattle.route.specs.Answer.{lengthOf, runAnswer, runWrites}
+use Rattle.route.proofs.Calls.Answers.{run-accepts, run-answered}
+use Rattle.route.proofs.Calls.Opened.{OpenedRoute, route-passed, open-answered, open-refused}
 use Rattle.run.proofs.run.Statement.{statement}
 use Rattle.run.proofs.run.Tie as tie
 
--- Where there is a plan p, the task is accepted and p is its plan.
-opened : (c : tie.After-p) → Opened (c .before .before .before .before .before .args .task .now) (c .p .given .0 .0)
-opened c = opened-plan _ (c .before .before .plan .ensures) (c .p .given .1)
+-- Where there is a plan p, it is the task's, and has the route.
+opened : (c : tie.After-p) →
+    let args = c .before .before .before .before .before .args in
+    OpenedRoute (args .task .now) (args .route) (c .p .given .0 .0)
+opened c = open-answered _ _ (sym (c .before .before .open-route .ensures) ∙ ap planReply (c .p .given .1))
 
-plan-requires : tie.Need-plan-requires
-plan-requires c κs = search needs
+open-route-requires : tie.Need-open-route-requires
+open-route-requires c κs = search needs
 
 enum-known-why : tie.Need-enum-known-why
 enum-known-why c = search needs
@@ -31,63 +31,44 @@ enum-known-why c = search needs
 enum-known-p : tie.Need-enum-known-p
 enum-known-p c = search needs
 
-routes-requires : tie.Need-routes-requires
-routes-requires c κs = search needs
-
--- There is no such route.
-returns : tie.Need-returns
-unfolding runVerdict runAnswer runWrites
-returns c =
-    let o = opened (c .before .before .before) in
-    rw (o .verdict, o .plan, ← c .before .routes .ensures, le-ltb _ _ (c .if1 .taken)) (refl, refl)
-
 shortest-requires : tie.Need-shortest-requires
 shortest-requires c κs = search needs
 
 -- There is no such index.
+returns : tie.Need-returns
+unfolding runAnswer runWrites
+returns c =
+    let o = opened (c .before .before .before) in
+    rw (o .passed, o .plan, ← c .before .shortest .ensures, lt-ltb _ _ (c .if1 .taken)) (refl, refl)
+
+-- The buffer is short.
 returns-2 : tie.Need-returns-2
-unfolding runVerdict runAnswer runWrites
+unfolding runAnswer runWrites
 returns-2 c =
     let o = opened (c .before .before .before .before .before) in
     rw (
-      o .verdict,
+      o .passed,
       o .plan,
-      ← c .before .before .before .routes .ensures,
-      lt-ltb _ _ (c .before .before .if1 .left),
-      ← c .before .shortest .ensures,
-      lt-ltb _ _ (c .if2 .taken),
+      ← c .before .before .before .shortest .ensures,
+      le-ltb _ _ (c .before .before .if1 .left),
+      lt-ltb _ _ (c .before .if2 .taken),
+      c .if3 .taken,
     )
     (refl, refl)
 
--- The buffer's check is left.
-passed : (c : tie.Else2) →
-    let args = c .before .before .before .before .before .before .before .before .before .before .args in
-    runVerdict (args .task .now) (args .route) (args .first) (args .out .now)
-    ≡ check (ltb (args .first) (c .before .shortest .result) && ltb (length (args .out .now)) 2) ShortBuffer Accepted
-unfolding runVerdict
-passed c =
-    let o = opened (c .before .before .before .before .before) in
-    rw (
-      o .verdict,
-      o .plan,
-      ← c .before .before .before .routes .ensures,
-      lt-ltb _ _ (c .before .before .if1 .left),
-      ← c .before .shortest .ensures,
-      le-ltb _ _ (c .if2 .left),
-    )
+-- The index is up to the length.
+index : (c : tie.Else1) →
+    let args = c .before .before .before .before .before .before .before .before .args in
+    args .first ≤ lengthOf (args .task .now)
+index c = rw (opened (c .before .before .before) .plan, ← c .before .shortest .ensures) (c .if1 .left)
 
--- The buffer is short.
-returns-3 : tie.Need-returns-3
-unfolding runAnswer runWrites
-returns-3 c = rw (passed (c .before .before), lt-ltb _ _ (c .before .if3 .taken), c .if4 .taken) (refl, refl)
-
--- It is not: nothing is refused.
-accepted : (c : tie.Joined3) →
-    let args = c .before .before .before .before .before .before .before .before .before .before .before .args in
-    runVerdict (args .task .now) (args .route) (args .first) (args .out .now) ≡ Accepted
-accepted c =
-    passed (c .before)
-    ∙ ⊎-elim (λ w. rw (lt-ltb _ _ (w .0 .taken), w .1 .left)) (λ w. rw (le-ltb _ _ (w .left))) (c .if3 .came)
+-- Where moves remain, the buffer has room for one.
+room : (c : tie.Joined2) →
+    let args = c .before .before .before .before .before .before .before .before .before .args in
+    args .first < lengthOf (args .task .now) → 2 ≤ length (args .out .now)
+room c =
+    rw (opened (c .before .before .before .before) .plan, ← c .before .before .shortest .ensures)
+    (λ some. ⊎-elim (λ w. ltb-false _ _ (w .1 .left)) (λ w. absurd (omega (arith, w .left))) (c .if2 .came))
 
 slice-aggregate-run-from : tie.Need-slice-aggregate-run-from
 slice-aggregate-run-from c = simp length-take (omega arith)
@@ -103,44 +84,45 @@ part-run-from-end c = search needs
 
 run-from-requires : tie.Need-run-from-requires
 run-from-requires c κs =
-    let o = opened (c .before .before .before .before .before .before .before .before .before) in
-    rw part-to-end (task-ends (o .sound), (sym (o .plan), (omega arith, omega arith)))
+    let o = opened (c .before .before .before .before .before .before .before) in
+    rw part-to-end (task-ends (o .sound), (sym (o .plan), (o .known, omega arith)))
 
--- The task is refused.
-returns-4 : tie.Need-returns-4
-unfolding runVerdict runAnswer runWrites
-returns-4 c =
-    rw (opened-refused _ (c .before .before .before .plan .ensures) (c .before .why .given .1)) (refl, refl)
+-- The task or the route number is refused.
+returns-3 : tie.Need-returns-3
+unfolding runAnswer runWrites
+returns-3 c =
+    rw (open-refused _ _ (sym (c .before .before .before .open-route .ensures) ∙ ap planReply (c .before .why .given .1))) (refl, refl)
 
 same-length : tie.Need-same-length
 same-length c = search needs
 
 -- The moves are written.
-returns-5 : tie.Need-returns-5
-unfolding runCount runAnswer runWrites
-returns-5 c =
+returns-4 : tie.Need-returns-4
+returns-4 c =
     let at = c .before .before .before .before .before .before in
-    let o = opened (at .before .before .before .before .before .before) in
+    let args = at .before .before .before .before .before .before .before .before .before .args in
+    let o = opened (at .before .before .before .before) in
     let ran = c .before .before .run-from .ensures in
-    rw (accepted at, o .plan, ← ran .0) (refl, rw part-to-end at (ran .1))
+    let routed = route-passed (args .task .now) (args .route) (o .passed) in
+    let answered = run-accepts _ _ routed (args .first) (args .out .now) (index (at .before)) (room at) in
+    let wrote = run-answered (args .task .now) (args .route) (args .first) (args .out .now) answered .wrote in
+    rw (answered, wrote, o .plan, ← ran .0) (refl, rw part-to-end at (ran .1))
 
 pub run-spec : {M : Type 1} → statement M
 run-spec =
     tie.close
     (tie.spec
-    plan-requires
+    open-route-requires
     enum-known-why
     enum-known-p
-    routes-requires
-    returns
     shortest-requires
+    returns
     returns-2
-    returns-3
     slice-aggregate-run-from
     sub-run-from
     part-run-from-start
     part-run-from-end
     run-from-requires
-    returns-4
+    returns-3
     same-length
-    returns-5)
+    returns-4)

@@ -2,8 +2,8 @@
 use Prim.Native.Nat.{_≤_}
 use native.Mathlib.Omega.{arith}
 use lib.ListN.{length, length-take}
-use lib.Seq.{length-sets}
 use borrow.Author.Needs.{needs}
+use Rattle.text.proofs.Answers.{answer-within}
 use Rattle.task.proofs.main.Statement.{statement}
 use Rattle.task.proofs.main.Tie as tie
 
@@ -24,7 +24,7 @@ answer-requires c κs = search needs
 
 -- The answer ends on the page.
 within : (c : tie.After-answer) → c .answer .result ≤ length (c .answer .last .1 .0)
-within c = rw (c .answer .ensures .0 .page, length-sets) (c .answer .ensures .1)
+within c = rw (c .answer .ensures .0, c .answer .ensures .1 .0) (answer-within _ _)
 
 array-share-prefix-page : tie.Need-array-share-prefix-page
 array-share-prefix-page c = within c

@@ -1,104 +1,54 @@
--- `text::answer` meets its contract: the checks in document 01's order, and then the task's answer. Assumes nothing.
-use Prim.Native.Nat.{_+_, _≤_}
+-- `text::answer` meets its contract: what is put at the start of its own page is the answer, and that is copied. Assumes nothing.
+use Prim.Native.Nat.{ℕ}
+use mathlib.Core.List.{List, _++_}
 use mathlib.Core.Path.{_≡_, _∙_, sym}
-use mathlib.Core.Bool.{true, false}
-use mathlib.Core.List.{_++_}
-use mathlib.Core.Logic.{_≢_}
 use native.Mathlib.Nat.{zero-add}
 use native.Mathlib.Omega.{arith}
 use borrow.Author.Needs.{needs}
-use borrow.Author.Tests.{not-true, not-false}
-use lib.ListN.{length, take, length-append, length-take}
-use lib.Seq.{length-sets}
-use Rattle.text.specs.Reading.{isText, startIn, goalIn}
-use Rattle.text.proofs.Answers.{text-fits, positions-few, put-read, other-text, unequal, equal}
+use lib.ListN.{length, take, drop, length-take, length-replicate}
+use lib.Seq.{length-sets, length-take-le, take-length}
+use Rattle.text.specs.Answer.{answerText, answeredPage}
+use Rattle.text.proofs.Answers.{put-read}
 use Rattle.text.proofs.answer.Statement.{statement}
 use Rattle.text.proofs.answer.Tie as tie
 
-is-text-requires : tie.Need-is-text-requires
-is-text-requires c κs = search needs
+put-answer-requires : tie.Need-put-answer-requires
+put-answer-requires c κs = search needs
 
-put-refusal-requires : tie.Need-put-refusal-requires
-put-refusal-requires c κs = search needs
+-- The own page has 8,192 bytes.
+array-share-prefix-own : tie.Need-array-share-prefix-own
+array-share-prefix-own c =
+    let (puts, within) = c .put-answer .ensures in
+    rw (puts .page, length-sets, length-replicate) within
 
--- Other text.
+-- Its first bytes are the answer.
+made : (c : tie.After-put-answer) →
+    take (c .put-answer .result) (c .put-answer .last .1 .0) ≡ answerText (c .before .before .before .args .input .now)
+made c =
+    let (puts, within) = c .put-answer .ensures in
+    let end = puts .place ∙ zero-add _ in
+    rw (end, puts .page) (put-read _ (answerText (c .before .before .before .args .input .now)) (rw length-replicate (omega arith)))
+
+slice-aggregate-copy : tie.Need-slice-aggregate-copy
+slice-aggregate-copy c = sym (length-take-le _ _ (array-share-prefix-own (c .before)))
+
+copy-requires : tie.Need-copy-requires
+copy-requires c κs = simp length-take (omega (arith, c .before .before .put-answer .ensures .1))
+
+-- A copy of the whole of a text is the text, and then the page's own bytes.
+whole : (page text src : List ℕ) → src ≡ text → take (length src) src ++ drop (length src) page ≡ text ++ drop (length text) page
+whole page text src e = rw (e, take-length text)
+
 returns : tie.Need-returns
+unfolding answeredPage
 returns c =
-    let b = c .before .before .before .before .before .args .input .now in
-    let other : isText b ≡ false = sym (c .before .before .before .is-text .ensures) ∙ not-true _ (c .before .before .if1 .taken) in
-    rw (other-text b other) (c .put-refusal .ensures)
-
--- What is read is a text.
-text : (c : tie.After-task) → isText (c .before .before .before .before .args .input .now) ≡ true
-text c = sym (c .before .before .is-text .ensures) ∙ not-false _ (c .before .if1 .left)
-
-read-task-requires : tie.Need-read-task-requires
-read-task-requires c κs = text-fits (c .before .before .before .before .args .input .now) (text c)
-
--- The task is the two positions, and fits.
-task : (c : tie.After-read-task) →
-    let b = c .before .before .before .before .before .args .input .now in
-    (length (startIn b) ≡ c .read-task .result .start)
-    × (length (startIn b) + length (goalIn b) ≡ c .read-task .result .all)
-    × (take (c .read-task .result .all) (c .read-task .last .1 .0) ≡ startIn b ++ goalIn b)
-    × (c .read-task .result .all ≤ length (c .read-task .last .1 .0))
-task c =
-    let b = c .before .before .before .before .before .args .input .now in
-    let (first, puts) = c .read-task .ensures in
-    let few = positions-few b in
-    let fits = text-fits b (text (c .before)) in
-    let both = length-append (startIn b) (goalIn b) in
-    let all : c .read-task .result .all ≡ length (startIn b ++ goalIn b) = puts .place ∙ zero-add _ in (
-      sym first,
-      omega arith,
-      rw (all, puts .page) (put-read _ (startIn b ++ goalIn b) (omega arith)),
-      rw (puts .page, length-sets) (omega arith),
-    )
-
-sub-if2 : tie.Need-sub-if2
-sub-if2 c = omega (arith, task (c .before))
-
-put-refusal-requires-2 : tie.Need-put-refusal-requires-2
-put-refusal-requires-2 c κs = search needs
-
--- Unequal counts.
-returns-2 : tie.Need-returns-2
-returns-2 c =
-    let b = c .before .before .before .before .before .before .before .before .before .before .args .input .now in
-    let (first, both, _, _) = task (c .before .before .before .before .before) in
-    let differ : length (startIn b) ≢ length (goalIn b) = λ e. c .before .before .if2 .taken (omega arith) in
-    rw (unequal b (text (c .before .before .before .before .before .before)) differ) (c .put-refusal2 .ensures)
-
-array-share-prefix-task : tie.Need-array-share-prefix-task
-array-share-prefix-task c = task (c .before .before .before .before) .3
-
-slice-aggregate-put-task : tie.Need-slice-aggregate-put-task
-slice-aggregate-put-task c =
-    let read = c .before .before .before .before .before .read-task in omega (arith, task (c .before .before .before .before .before) .3, length-take (read .result .all) (read .last .1 .0))
-
-put-task-requires : tie.Need-put-task-requires
-put-task-requires c κs = search needs
-
--- A task.
-returns-3 : tie.Need-returns-3
-returns-3 c =
-    let b = c .before .before .before .before .before .before .before .before .before .before .before .args .input .now in
-    let (first, both, same, _) = task (c .before .before .before .before .before .before) in
-    let match : length (startIn b) ≡ length (goalIn b) = omega (arith, c .before .before .before .if2 .left) in
-    rw (equal b (text (c .before .before .before .before .before .before .before)) match, ← same) (c .put-task .ensures)
+    let put = c .before .before .before in
+    let args = put .before .before .before .args in
+    let count = rw (made put) at (c .copy .ensures .0) in
+    let page = c .copy .ensures .1 ∙ whole (args .page .now) (answerText (args .input .now)) _ (made put) in
+    (count, (page, omega (arith, put .put-answer .ensures .1, put .put-answer .ensures .0 .place)))
 
 pub answer-spec : {M : Type 1} → statement M
 answer-spec =
     tie.close
-    (tie.spec
-    is-text-requires
-    put-refusal-requires
-    returns
-    read-task-requires
-    sub-if2
-    put-refusal-requires-2
-    returns-2
-    array-share-prefix-task
-    slice-aggregate-put-task
-    put-task-requires
-    returns-3)
+    (tie.spec put-answer-requires array-share-prefix-own slice-aggregate-copy copy-requires returns)

@@ -1,7 +1,6 @@
 -- `towers::refusal_word` meets its contract: a refusal's number is at least 1, so nothing wraps. Assumes nothing.
 use native.Mathlib.Omega.{arith}
 use borrow.Author.Needs.{needs}
-use Rattle.towers.specs.Words.{refusalWord}
 use Rattle.towers.proofs.Apart.{number-between}
 use Rattle.towers.proofs.refusal_word.Statement.{statement}
 use Rattle.towers.proofs.refusal_word.Tie as tie
@@ -16,7 +15,6 @@ add-result : tie.Need-add-result
 add-result c = omega (arith, number-between (c .before .args .why))
 
 returns : tie.Need-returns
-unfolding refusalWord
 returns c = omega (arith, number-between (c .before .args .why))
 
 pub refusal-word-spec : {M : Type 1} → statement M

@@ -2,20 +2,22 @@
 -- Assumes nothing.
 use Prim.Native.Nat.{ℕ, _+_, _*_, _^_, _%_, _≤_, _<_}
 use mathlib.Core.Path.{_≡_, _∙_, refl}
-use mathlib.Core.List.{List, [], _∷_, _++_}
+use mathlib.Core.List.{List, [], _∷_}
 use native.Mathlib.Nat.{one-mul}
 use native.Mathlib.Omega.{arith}
-use lib.ListN.{length, drop, replicate}
+use lib.ListN.{length}
 use lib.Pow.{pow-mono, shl-exact}
 use borrow.Author.Needs.{needs}
 use Rattle.board.specs.Peg.{third}
-use Rattle.board.specs.Position.{peg, WellFormed}
+use Rattle.board.specs.Held.{padded}
+use Rattle.board.specs.Position.{peg}
 use Rattle.board.specs.Task.{limit}
 use Rattle.board.proofs.Pegs.{third-peg}
-use Rattle.board.proofs.Formed.{formed-append, formed-drop, formed-pegs, formed-replicate}
+use Rattle.board.proofs.Arrays.{copied-padded, padded-formed}
+use Rattle.board.proofs.Formed.{formed-pegs}
 use Rattle.plan.specs.Gather.{gather}
 use Rattle.plan.specs.Plan.{direct, detour}
-use Rattle.plan.specs.Sound.{Ends}
+use Rattle.plan.specs.Inner.Sound.{Ends}
 use Rattle.plan.specs.declared.answer.Lengths.{Lengths}
 use Rattle.plan.proofs.Sound.{start-gatherable, goal-gatherable}
 use Rattle.plan.proofs.Fits.{gather-fits}
@@ -54,10 +56,6 @@ module _ {s t : List ℕ} {k : ℕ} (ends : Ends s t) (h : k < length s) where
   unfolding detourSum
   detour-small = gathers-small (formed-pegs t (ends .goal-formed) k) (formed-pegs s (ends .start-formed) k)
 
--- A copy of a position, with zeros after it, is well formed.
-copy-formed : (p : List ℕ) → WellFormed p → WellFormed (p ++ drop (length p) (replicate limit 0))
-copy-formed p h = formed-append p _ h (formed-drop (length p) _ (formed-replicate limit 0 (omega arith)))
-
 -- Sums of 0 leave room for at most `limit` discs.
 room : (k : ℕ) → k ≤ limit → (0 + 2) * 2 ^ k ≤ 2 ^ 63
 room k h = omega (arith, pow-mono h)
@@ -77,17 +75,24 @@ third-requires c κs =
 third-small : (c : tie.After-third) → c .third .result < 3
 third-small c = let pegs = third-requires (c .before) tt in rw (c .third .ensures) (third-peg _ _ (pegs .0))
 
-slice-aggregate-copy-first : tie.Need-slice-aggregate-copy-first
-slice-aggregate-copy-first c = search needs
+slice-aggregate-copy : tie.Need-slice-aggregate-copy
+slice-aggregate-copy c = search needs
 
-copy-first-requires : tie.Need-copy-first-requires
-copy-first-requires c κs = search needs
+copy-requires : tie.Need-copy-requires
+copy-requires c κs = search needs
 
-slice-aggregate-copy-first-2 : tie.Need-slice-aggregate-copy-first-2
-slice-aggregate-copy-first-2 c = search needs
+slice-aggregate-copy-2 : tie.Need-slice-aggregate-copy-2
+slice-aggregate-copy-2 c = search needs
 
-copy-first-requires-2 : tie.Need-copy-first-requires-2
-copy-first-requires-2 c κs = search needs
+copy-requires-2 : tie.Need-copy-requires-2
+copy-requires-2 c κs = search needs
+
+-- The copies are the positions' arrays.
+from-padded : (c : tie.After-copy) → c .copy .last .1 .0 ≡ padded (c .before .before .before .before .before .before .before .args .start .now)
+from-padded c = c .copy .ensures .1 ∙ copied-padded (c .before .before .before .before .before .before .before .args .start .now)
+
+to-padded : (c : tie.After-copy2) → c .copy2 .last .1 .0 ≡ padded (c .before .before .before .before .before .before .before .before .before .before .args .goal .now)
+to-padded c = c .copy2 .ensures .1 ∙ copied-padded (c .before .before .before .before .before .before .before .before .before .before .args .goal .now)
 
 cast-gather-together : tie.Need-cast-gather-together
 cast-gather-together c = search needs
@@ -113,8 +118,8 @@ gather-together-requires c κs =
     let within : start .args .k ≤ limit = omega arith in
     record {
       within = within;
-      start-formed = rw (c .before .before .before .before .before .before .before .copy-first .ensures) (copy-formed _ (ends .start-formed));
-      goal-formed = rw (c .before .before .before .before .copy-first2 .ensures) (copy-formed _ (ends .goal-formed));
+      start-formed = rw (from-padded (c .before .before .before .before .before .before .before)) (padded-formed _ (ends .start-formed));
+      goal-formed = rw (to-padded (c .before .before .before .before)) (padded-formed _ (ends .goal-formed));
       start-direct = third-small (c .before .before .before .before .before .before .before .before .before);
       goal-direct = third-small (c .before .before .before .before .before .before .before .before .before);
       start-detour = formed-pegs _ (ends .goal-formed) _;
@@ -138,32 +143,32 @@ unfolding directSum detourSum
 sums-left c =
     let args = entry c .args in
     rw (
-      c .before .before .before .before .before .before .before .before .copy-first .ensures,
-      c .before .before .before .before .before .copy-first2 .ensures,
+      from-padded (c .before .before .before .before .before .before .before .before),
+      to-padded (c .before .before .before .before .before),
       c .before .before .before .before .before .before .before .before .before .before .third .ensures,
       together-copied (args .start .now) (args .goal .now) _ _ (args .k) _ _ _ _ (omega arith) (omega arith),
     ) at (c .gather-together .ensures)
 
-array-read-t20 : tie.Need-array-read-t20
-array-read-t20 c = search needs
+array-read-t21 : tie.Need-array-read-t21
+array-read-t21 c = search needs
 
-add-t23 : tie.Need-add-t23
-add-t23 c = let pre = entry c .pre in rw (sums-left c) (omega (arith, direct-small (pre .0) (pre .1)))
+add-t24 : tie.Need-add-t24
+add-t24 c = let pre = entry c .pre in rw (sums-left c) (omega (arith, direct-small (pre .0) (pre .1)))
 
-array-read-t22 : tie.Need-array-read-t22
-array-read-t22 c = search needs
+array-read-t23 : tie.Need-array-read-t23
+array-read-t23 c = search needs
 
-shl-t29 : tie.Need-shl-t29
-shl-t29 c = search needs
+shl-t30 : tie.Need-shl-t30
+shl-t30 c = search needs
 
-add-t31 : tie.Need-add-t31
-add-t31 c =
+add-t32 : tie.Need-add-t32
+add-t32 c =
     let pre = entry c .pre in
     let within : entry c .args .k ≤ limit = omega arith in
     rw (sums-left c, shift-exact) (omega (arith, detour-small (pre .0) (pre .1), pow-mono within))
 
-add-t30 : tie.Need-add-t30
-add-t30 c = omega (arith, add-t31 c)
+add-t31 : tie.Need-add-t31
+add-t31 c = omega (arith, add-t32 c)
 
 -- Both lengths are those of the rules.
 returns : tie.Need-returns
@@ -179,19 +184,19 @@ lengths-spec =
     shared-slice-read-a
     shared-slice-read-b
     third-requires
-    slice-aggregate-copy-first
-    copy-first-requires
-    slice-aggregate-copy-first-2
-    copy-first-requires-2
+    slice-aggregate-copy
+    copy-requires
+    slice-aggregate-copy-2
+    copy-requires-2
     cast-gather-together
     cast-gather-together-2
     cast-gather-together-3
     cast-gather-together-4
     gather-together-requires
-    array-read-t20
-    add-t23
-    array-read-t22
-    shl-t29
-    add-t30
+    array-read-t21
+    add-t24
+    array-read-t23
+    shl-t30
     add-t31
+    add-t32
     returns)

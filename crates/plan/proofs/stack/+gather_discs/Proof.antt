@@ -21,7 +21,7 @@ use Rattle.plan.proofs.Fits.{gather-fits}
 use Rattle.plan.proofs.stack.gather_discs.Reads as reads
 use Rattle.plan.proofs.stack.gather_discs.Kinds as kinds
 use Rattle.plan.proofs.stack.+gather_discs.Lts-gather_discs as lts
-use Rattle.board.proofs.peg.third.Reads as third-reads
+use Rattle.board.proofs.third.Reads as third-reads
 use Rattle.plan.proofs.stack.+gather_discs.{statement}
 use Rattle.plan.proofs.stack.+gather_discs.Tie.{close}
 

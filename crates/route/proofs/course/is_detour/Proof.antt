@@ -8,7 +8,7 @@ use borrow.Author.Tests.{ne-eqb}
 use lib.Dec.{eqb}
 use Rattle.plan.specs.declared.answer.Lengths.{Lengths}
 use Rattle.plan.specs.declared.answer.Way.the-variants.{Tie}
-use Rattle.route.specs.Stage.{isDetour}
+use Rattle.route.specs.Inner.Stage.{isDetour}
 use Rattle.route.proofs.course.is_detour.Statement.{statement}
 use Rattle.route.proofs.course.is_detour.Tie as tie
 

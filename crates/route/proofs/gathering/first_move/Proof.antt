@@ -9,7 +9,7 @@ use Rattle.board.specs.Position.{peg}
 use Rattle.board.proofs.Pegs.{third-same, third-peg}
 use Rattle.board.proofs.Formed.{formed-pegs}
 use Rattle.route.specs.Route.{gathering, moveAt}
-use Rattle.route.proofs.FirstMove.{gathering-first-home, gathering-first-away}
+use Rattle.route.proofs.Gatherings.FirstMove.{gathering-first-home, gathering-first-away}
 use Rattle.route.proofs.gathering.first_move.Statement.{statement}
 use Rattle.route.proofs.gathering.first_move.Tie as tie
 

@@ -2,7 +2,7 @@
 use native.Mathlib.Omega.{arith}
 use borrow.Author.Needs.{needs}
 use Rattle.plan.proofs.Fits.{tower-more, tower-fits}
-use Rattle.route.proofs.Passing.{stacked-pegs, pass-home, pass-before, pass-after}
+use Rattle.route.proofs.Along.Passing.{stacked-pegs, pass-home, pass-before, pass-after}
 use Rattle.route.proofs.gathering.pass.Statement.{statement}
 use Rattle.route.proofs.gathering.pass.Tie as tie
 

@@ -1,6 +1,6 @@
 -- `route::gathering::peg_of` meets its contract: the tower's peg where there is one, else the position's. Assumes nothing.
 use borrow.Author.Needs.{needs}
-use Rattle.route.proofs.Passing.{stacked-tower, stacked-none}
+use Rattle.route.proofs.Along.Passing.{stacked-tower, stacked-none}
 use Rattle.route.proofs.gathering.peg_of.Statement.{statement}
 use Rattle.route.proofs.gathering.peg_of.Tie as tie
 

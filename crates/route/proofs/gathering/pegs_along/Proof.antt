@@ -10,8 +10,8 @@ use lib.Seq.{getD-set-same, getD-set-other}
 use Rattle.board.specs.Position.{peg}
 use Rattle.board.specs.Task.{limit}
 use Rattle.board.proofs.Formed.{formed-pegs}
-use Rattle.route.specs.Along.{along, stacked}
-use Rattle.route.proofs.AlongLaws.{along-pegs}
+use Rattle.route.specs.Inner.Along.{along, stacked}
+use Rattle.route.proofs.Along.Along.{along-pegs}
 use Rattle.route.proofs.gathering.pegs_along.Statement.{statement}
 use Rattle.route.proofs.gathering.pegs_along.Tie as tie
 

@@ -3,9 +3,9 @@ use Prim.Native.Nat.{_<_}
 use mathlib.Core.Path.{_∙_, sym}
 use native.Mathlib.Omega.{arith}
 use Rattle.plan.specs.Plan.{planOf, shortest}
-use Rattle.route.specs.Stage.{CourseFits}
-use Rattle.route.proofs.CoursePlan.{course-fits}
-use Rattle.route.proofs.Found.{route-entry, moves-some, shortest-fits, stage-fits}
+use Rattle.route.specs.Inner.Stage.{CourseFits}
+use Rattle.route.proofs.Courses.Plan.{course-fits}
+use Rattle.route.proofs.Courses.Found.{route-entry, moves-some, shortest-fits, stage-fits}
 use Rattle.route.proofs.moves.route_move.Statement.{statement}
 use Rattle.route.proofs.moves.route_move.Tie as tie
 use lib.ListN.{length}

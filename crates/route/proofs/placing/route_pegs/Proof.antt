@@ -7,9 +7,9 @@ use borrow.Author.Needs.{needs}
 use borrow.Author.Tests.{le-ltb}
 use lib.ListN.{length}
 use Rattle.plan.specs.Plan.{planOf, shortest}
-use Rattle.route.specs.Stage.{CourseFits}
-use Rattle.route.proofs.CoursePlan.{course-fits}
-use Rattle.route.proofs.Found.{placed, placed-still}
+use Rattle.route.specs.Inner.Stage.{CourseFits}
+use Rattle.route.proofs.Courses.Plan.{course-fits}
+use Rattle.route.proofs.Courses.Found.{placed, placed-still}
 use Rattle.route.proofs.placing.route_pegs.Statement.{statement}
 use Rattle.route.proofs.placing.route_pegs.Tie as tie
 

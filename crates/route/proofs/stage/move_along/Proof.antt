@@ -9,9 +9,9 @@ use lib.ListN.{length, take, length-take}
 use lib.Seq.{getD-take}
 use Rattle.board.specs.Position.{peg}
 use Rattle.board.proofs.Formed.{pegs-formed}
-use Rattle.plan.specs.Sound.{Gatherable}
-use Rattle.route.specs.Along.{Along, along}
-use Rattle.route.proofs.Gathered.{gathering-cong}
+use Rattle.plan.specs.Inner.Sound.{Gatherable}
+use Rattle.route.specs.Inner.Along.{Along, along}
+use Rattle.route.proofs.Gatherings.Gathering.{gathering-cong}
 use Rattle.route.proofs.stage.move_along.Statement.{statement}
 use Rattle.route.proofs.stage.move_along.Tie as tie
 

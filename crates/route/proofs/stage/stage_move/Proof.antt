@@ -6,9 +6,9 @@ use native.Mathlib.Omega.{arith}
 use borrow.Author.Needs.{needs}
 use borrow.Author.Tests.{eq-eqb, ne-eqb}
 use Rattle.plan.proofs.Sound.{start-gatherable, goal-gatherable}
-use Rattle.route.specs.Stage.{stageMove}
-use Rattle.route.proofs.CoursePlan.{first-peg-fits, last-peg-fits}
-use Rattle.route.proofs.Towers.{tower-gatherable, tower-first}
+use Rattle.route.specs.Inner.Stage.{stageMove}
+use Rattle.route.proofs.Courses.Plan.{first-peg-fits, last-peg-fits}
+use Rattle.route.proofs.Along.Towers.{tower-gatherable, tower-first}
 use Rattle.route.proofs.stage.stage_move.Statement.{statement}
 use Rattle.route.proofs.stage.stage_move.Tie as tie
 

@@ -14,11 +14,11 @@ use lib.Seq.{getD-set-same, getD-set-other}
 use Rattle.board.specs.Position.{peg}
 use Rattle.board.specs.Task.{limit}
 use Rattle.plan.proofs.Sound.{start-gatherable, goal-gatherable}
-use Rattle.route.specs.Along.{along, Along}
-use Rattle.route.specs.Stage.{stagePeg}
-use Rattle.route.proofs.AlongLaws.{along-above}
-use Rattle.route.proofs.CoursePlan.{first-peg-fits, last-peg-fits}
-use Rattle.route.proofs.Towers.{tower-gatherable, tower-along}
+use Rattle.route.specs.Inner.Along.{along, Along}
+use Rattle.route.specs.Inner.Stage.{stagePeg}
+use Rattle.route.proofs.Along.Along.{along-above}
+use Rattle.route.proofs.Courses.Plan.{first-peg-fits, last-peg-fits}
+use Rattle.route.proofs.Along.Towers.{tower-gatherable, tower-along}
 use Rattle.route.proofs.stage.stage_pegs.Statement.{statement}
 use Rattle.route.proofs.stage.stage_pegs.Tie as tie
 

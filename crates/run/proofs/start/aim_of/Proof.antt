@@ -7,7 +7,7 @@ use Rattle.board.specs.Peg.{third}
 use Rattle.board.specs.Position.{peg}
 use Rattle.board.proofs.Formed.{formed-pegs}
 use Rattle.board.proofs.Pegs.{third-peg}
-use Rattle.route.specs.Aim.{aim}
+use Rattle.route.specs.Inner.Aim.{aim}
 use Rattle.run.proofs.start.aim_of.Statement.{statement}
 use Rattle.run.proofs.start.aim_of.Tie as tie
 

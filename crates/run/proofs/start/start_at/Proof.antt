@@ -10,8 +10,8 @@ use lib.Seq.{length-take-le}
 use Rattle.board.specs.Position.{peg, WellFormed}
 use Rattle.plan.specs.Plan.{planOf, routes, shortest}
 use Rattle.route.specs.Route.{routeOf, after}
-use Rattle.route.proofs.CoursePlan.{course-fits}
-use Rattle.route.proofs.Found.{moves-some}
+use Rattle.route.proofs.Courses.Plan.{course-fits}
+use Rattle.route.proofs.Courses.Found.{moves-some}
 use Rattle.run.proofs.Ahead.{Ahead, route-ahead}
 use Rattle.run.proofs.Starting.{route-formed, ahead-spreads, ready-start}
 use Rattle.run.proofs.start.start_at.Statement.{statement}

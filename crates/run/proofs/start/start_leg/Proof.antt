@@ -4,7 +4,7 @@ use native.Mathlib.Omega.{arith}
 use borrow.Author.Needs.{needs}
 use lib.ListN.{length}
 use Rattle.plan.proofs.Largest.{largest-le}
-use Rattle.run.specs.Start.{startLeg}
+use Rattle.run.specs.Inner.Start.{startLeg}
 use Rattle.run.proofs.start.start_leg.Statement.{statement}
 use Rattle.run.proofs.start.start_leg.Tie as tie
 

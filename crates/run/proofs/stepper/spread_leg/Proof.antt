@@ -4,7 +4,7 @@ use Prim.Native.Nat.{suc, _-_, _≤_}
 use mathlib.Core.Path.{_≡_, _∙_, refl, sym}
 use native.Mathlib.Omega.{arith}
 use Rattle.board.specs.Position.{peg}
-use Rattle.run.specs.Stepper.{spreadLeg}
+use Rattle.run.specs.Inner.Stepper.{spreadLeg}
 use Rattle.run.proofs.Steps.{spread-home, spread-away}
 use Rattle.run.proofs.stepper.spread_leg.Statement.{statement}
 use Rattle.run.proofs.stepper.spread_leg.Tie as tie

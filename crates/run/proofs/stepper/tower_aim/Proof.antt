@@ -1,7 +1,7 @@
 -- `run::stepper::tower_aim` meets its contract: the target for an odd number of discs, else the third peg. Assumes nothing.
 use borrow.Author.Needs.{needs}
 use borrow.Author.Tests.{eq-eqb, ne-eqb}
-use Rattle.run.specs.Stepper.{towerAim}
+use Rattle.run.specs.Inner.Stepper.{towerAim}
 use Rattle.run.proofs.stepper.tower_aim.Statement.{statement}
 use Rattle.run.proofs.stepper.tower_aim.Tie as tie
 

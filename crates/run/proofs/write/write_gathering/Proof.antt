@@ -6,7 +6,7 @@ use native.Mathlib.Numerals.{add-one}
 use native.Mathlib.Omega.{arith}
 use lib.ListN.{length, length-set}
 use lib.Seq.{sets}
-use Rattle.run.specs.Gatherer.{Gatherer, gatherer, gathersFrom, gatherLetters, Gathers}
+use Rattle.run.specs.Inner.Gatherer.{Gatherer, gatherer, gathersFrom, gatherLetters, Gathers}
 use Rattle.run.proofs.Gathers.{gather-next, gather-go}
 use Rattle.run.proofs.write.write_gathering.Statement.{statement}
 use Rattle.run.proofs.write.write_gathering.Tie as tie

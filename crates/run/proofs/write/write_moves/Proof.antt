@@ -10,8 +10,8 @@ use lib.ListN.{length, drop, length-set}
 use lib.Seq.{length-sets}
 use Rattle.board.specs.Position.{peg}
 use Rattle.board.proofs.Formed.{formed-pegs}
-use Rattle.run.specs.Stepper.{legTurn, Stepped, Safe}
-use Rattle.run.specs.Written.{stepsFrom, stepLetters}
+use Rattle.run.specs.Inner.Stepper.{legTurn, Advance, Safe}
+use Rattle.run.specs.Inner.Written.{stepsFrom, stepLetters}
 use Rattle.run.specs.declared.stepper.Stepper.{Stepper}
 use Rattle.run.proofs.Gathers.{gathers-safe, gathered-steps, gathered-letters}
 use Rattle.run.proofs.Letters.{begin, go}
@@ -114,7 +114,7 @@ loop-again c =
     rw (inv .2) at (leg-made (current here) _ _ (made .1) (leg .before .if1 .taken) (leg .next-leg .ensures) (made .0)) in (
       omega arith,
       simp length-set (inv .1),
-      rw add-one (ap (λ (t : Stepped). t .stepper) next),
+      rw add-one (ap (λ (t : Advance). t .stepper) next),
       rw (inv .3) (simp add-one (go _ _ _ _ (omega (arith, start here .pre .0)) next)),
     )
 

@@ -2,7 +2,7 @@
 use mathlib.Core.Path.{_∙_, sym, ap}
 use borrow.Author.Needs.{needs}
 use Rattle.plan.specs.Plan.{shortest}
-use Rattle.session.proofs.CodeLaws.{fewest-plan, shortest-fits}
+use Rattle.plan.proofs.Sound.{ends-fewest, ends-fit}
 use Rattle.session.proofs.sound.fewest_of.Statement.{statement}
 use Rattle.session.proofs.sound.fewest_of.Tie as tie
 
@@ -16,7 +16,7 @@ returns : tie.Need-returns
 returns c =
     let ends = c .before .before .before .before .pre in
     let e = c .shortest .ensures ∙ ap shortest (c .before .plan-between .ensures) in
-    (e ∙ sym (fewest-plan _ _ ends), rw e (shortest-fits _ _ ends))
+    (e ∙ sym (ends-fewest ends), rw e (ends-fit ends))
 
 pub fewest-of-spec : {M : Type 1} → statement M
 fewest-of-spec = tie.close (tie.spec plan-between-requires shortest-requires returns)

@@ -1,26 +1,52 @@
--- `session::sound::marks_agree` meets its contract: the counts are few and the fewest moves fit, so the sums do not wrap. Assumes nothing.
-use borrow.Author.Needs.{needs}
+-- `session::sound::marks_agree` meets its contract: the positions are ends, and the sums fit. Assumes nothing.
 use native.Mathlib.Omega.{arith}
+use borrow.Author.Needs.{needs}
 use Rattle.session.specs.Record.{marksAgree}
-use Rattle.session.proofs.CodeLaws.{counts-give}
+use Rattle.session.proofs.Soundness.{Sized, Positions, positions-held, counts-sum, counts-few, start-ends, current-ends}
 use Rattle.session.proofs.sound.marks_agree.Statement.{statement}
 use Rattle.session.proofs.sound.marks_agree.Tie as tie
 
+-- The arrays of a record have 60 bytes.
+sized : (c : tie.Start) → Sized (c .args .s)
+sized c = search needs
+
+positions : (c : tie.Start) → Positions (c .args .s)
+positions c = positions-held (c .args .s) (c .pre .0)
+
 fewest-held-requires : tie.Need-fewest-held-requires
-fewest-held-requires c κs = search needs
+fewest-held-requires c κs =
+    let at = c .before .before .before .before in
+    (positions at .few, current-ends (sized at) (positions at))
 
 fewest-held-requires-2 : tie.Need-fewest-held-requires-2
-fewest-held-requires-2 c κs = search needs
+fewest-held-requires-2 c κs =
+    let at = c .before .before .before .before .before in
+    (positions at .few, start-ends (sized at) (positions at))
 
+-- The counts are few, and the fewest are far below what 64 bits hold.
 add-result : tie.Need-add-result
-add-result c = omega (arith, counts-give _ (c .before .before .before .before .before .before .pre .1 .1 .1))
+add-result c =
+    let at = c .before .before .before .before .before .before .before in
+    omega (
+      arith,
+      counts-sum (at .args .s .counts) (at .pre .1),
+      counts-few (at .args .s .counts) (at .pre .1),
+      c .before .before .fewest-held .ensures .1,
+    )
 
 add-result-2 : tie.Need-add-result-2
-add-result-2 c = omega (arith, counts-give _ (c .before .before .before .before .before .before .before .pre .1 .1 .1))
+add-result-2 c =
+    let at = c .before .before .before .before .before .before .before .before in
+    omega (
+      arith,
+      counts-sum (at .args .s .counts) (at .pre .1),
+      counts-few (at .args .s .counts) (at .pre .1),
+      c .before .before .fewest-held2 .ensures .1,
+    )
 
 returns : tie.Need-returns
 unfolding marksAgree
-returns c = rw (c .before .before .before .fewest-held .ensures .0, c .before .before .fewest-held2 .ensures .0)
+returns c = rw (c .before .before .fewest-held2 .ensures .0, c .before .before .before .fewest-held .ensures .0)
 
 pub marks-agree-spec : {M : Type 1} → statement M
 marks-agree-spec =

@@ -10,7 +10,7 @@ use lib.Dec.{ltb}
 use lib.ListN.{length, length-append}
 use Rattle.text.specs.Input.{digit}
 use Rattle.text.specs.Decimal.{decimal}
-use Rattle.text.specs.Page.{Puts}
+use Rattle.text.specs.Inner.Page.{Puts}
 use Rattle.text.proofs.Page.{puts-then, puts-none}
 use borrow.Fn.Kinds.{In}
 use borrow.Fn.PlainCycle.{Measures, is, falls, and}

@@ -6,7 +6,7 @@ use native.Mathlib.Numerals.{add-one}
 use native.Mathlib.Omega.{arith}
 use lib.ListN.{take, drop}
 use lib.Seq.{sets}
-use Rattle.text.specs.Page.{spaced}
+use Rattle.text.specs.Inner.Page.{spaced}
 use Rattle.text.proofs.Page.{spaced-past, spaced-none, spaced-length}
 use Rattle.text.proofs.report.put_moves.Statement.{statement}
 use Rattle.text.proofs.report.put_moves.Tie as tie

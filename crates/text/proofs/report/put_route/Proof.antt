@@ -1,22 +1,17 @@
 -- `text::report::put_route` meets its contract: the word long above 1,000 moves, else what Run writes of the whole route. Assumes nothing.
 use Prim.Native.Nat.{ℕ, _*_, _≤_}
-use mathlib.Core.Path.{_≡_, _∙_, sym, refl}
+use mathlib.Core.Path.{_≡_, _∙_, sym, ap, refl}
 use native.Mathlib.Omega.{arith}
 use borrow.Author.Tests.{lt-ltb, le-ltb}
 use lib.ListN.{length, take}
-use Rattle.board.specs.declared.refusal.Refusal.{Refusal}
-use Rattle.route.specs.Answer.{lengthOf, taskRoute, letters}
-use Rattle.route.specs.declared.answer.Ran.the-variants as ran
+use Rattle.board.specs.Reply.{answer}
+use Rattle.board.proofs.Replies.{refused-answer}
+use Rattle.route.specs.Answer.{lengthOf, taskRoute, letters, runReply}
 use Rattle.text.specs.Report.{routeText, mostMoves}
-use Rattle.text.proofs.Runs.{spaced-letters, route-length, run-whole, whole-letters}
+use Rattle.text.proofs.Runs.{spaced-letters, long, run-whole, whole-letters}
 use borrow.Author.Needs.{needs}
 use Rattle.text.proofs.report.put_route.Statement.{statement}
 use Rattle.text.proofs.report.put_route.Tie as tie
-use Rattle.text.proofs.report.put_route.Reads as reads
-use Rattle.text.proofs.report.put_route.Lts as lts
-use Rattle.run.proofs.run.Reads as run-reads
-use Rattle.text.proofs.put.put.Reads as put-reads
-use Rattle.text.proofs.report.put_moves.Reads as put-moves-reads
 
 slice-aggregate-put : tie.Need-slice-aggregate-put
 slice-aggregate-put c = search needs
@@ -31,8 +26,8 @@ returns c =
     let t = c .before .before .before .before .before .args .task .now in
     let r = c .before .before .before .before .before .args .route in
     let pre = c .before .before .before .before .before .pre .1 in
-    let long = lt-ltb mostMoves (length (taskRoute t r)) (omega (arith, pre .2, c .before .before .before .if1 .taken, route-length t (pre .0) r (pre .1))) in
-    rw long (c .put .ensures, omega (arith, c .put .ensures .place))
+    let above = lt-ltb mostMoves (length (taskRoute t r)) (omega (arith, pre .2, c .before .before .before .if1 .taken, long t (pre .0) r (pre .1))) in
+    rw above (c .put .ensures, omega (arith, c .put .ensures .place))
 
 slice-aggregate-run : tie.Need-slice-aggregate-run
 slice-aggregate-run c = search needs
@@ -44,7 +39,7 @@ run-requires c κs = search needs
 whole : (c : tie.After-run) →
     let t = c .before .before .before .before .args .task .now in
     let r = c .before .before .before .before .args .route in
-    (c .run .result ≡ ran.Moves (lengthOf t)) × (take (2 * lengthOf t) (c .run .last .1 .1 .1 .0) ≡ letters (taskRoute t r))
+    (runReply (c .run .result) ≡ answer (lengthOf t)) × (take (2 * lengthOf t) (c .run .last .1 .1 .1 .0) ≡ letters (taskRoute t r))
 whole c =
     let t = c .before .before .before .before .args .task .now in
     let r = c .before .before .before .before .args .route in
@@ -63,24 +58,19 @@ enum-known-count c = search needs
 slice-aggregate-put-moves : tie.Need-slice-aggregate-put-moves
 slice-aggregate-put-moves c = search needs
 
--- Two counts that are answered alike are one.
-same-count : (n k : ℕ) → ran.Moves n ≡ ran.Moves k → n ≡ k
-same-count n k e = cc
-
--- A count is no refusal.
-no-refusal : (n : ℕ) (why : Refusal) → ran.Moves n ≡ ran.Refused why → ⊥
-no-refusal n why e = let z : _≡_ {A = ℕ} 0 1 = cc in absurd (omega arith)
-
 -- So the count is the route's length.
 counted : (c : tie.After-count) → c .count .given .0 .0 ≡ lengthOf (c .before .before .before .before .before .before .before .args .task .now)
-counted c = same-count _ _ (sym (c .count .given .1) ∙ whole (c .before .before .before) .0)
+counted c =
+    let same : answer (c .count .given .0 .0) ≡ answer (lengthOf (c .before .before .before .before .before .before .before .args .task .now)) =
+    sym (ap runReply (c .count .given .1)) ∙ whole (c .before .before .before) .0 in
+    cc
 
 put-moves-requires : tie.Need-put-moves-requires
 put-moves-requires c κs = omega (arith, counted (c .before .before .before))
 
 -- Run refuses no route of a task.
 returns-2 : tie.Need-returns-2
-returns-2 c = absurd (no-refusal _ _ (sym (whole (c .before .before .before) .0) ∙ c .enum-told .given .1))
+returns-2 c = absurd (refused-answer (sym (ap runReply (c .enum-told .given .1)) ∙ whole (c .before .before .before) .0))
 
 -- The whole route is put.
 returns-3 : tie.Need-returns-3
@@ -91,7 +81,7 @@ returns-3 c =
     let pre = c .before .before .before .before .before .before .before .before .before .before .before .pre .1 in
     let count = counted (c .before .before .before .before) in
     let (_, written) = whole (c .before .before .before .before .before .before .before) in
-    let short = le-ltb mostMoves (length (taskRoute t r)) (omega (arith, pre .2, c .before .before .before .before .before .before .before .before .before .if1 .left, route-length t (pre .0) r (pre .1))) in
+    let short = le-ltb mostMoves (length (taskRoute t r)) (omega (arith, pre .2, c .before .before .before .before .before .before .before .before .before .if1 .left, long t (pre .0) r (pre .1))) in
     let puts = rw (count, written, spaced-letters) at (c .put-moves .ensures .1) in
     (rw short puts, omega (arith, c .put-moves .ensures .0, count, pre .2, c .before .before .before .before .before .before .before .before .before .if1 .left))
 

@@ -3,7 +3,7 @@ use Prim.Native.Nat.{_≤_}
 use native.Mathlib.Omega.{arith}
 use borrow.Author.Needs.{needs}
 use lib.ListN.{length, length-take}
-use lib.Seq.{length-sets}
+use Rattle.text.proofs.Answers.{answer-within}
 use Rattle.texts.proofs.show.show.Statement.{statement}
 use Rattle.texts.proofs.show.show.Tie as tie
 
@@ -21,7 +21,7 @@ write-all-requires-2 c κs = search needs
 
 -- The answer ends on the page.
 within : (c : tie.After-answer) → c .answer .result ≤ length (c .answer .last .1 .0)
-within c = rw (c .answer .ensures .0 .page, length-sets) (c .answer .ensures .1)
+within c = rw (c .answer .ensures .0, c .answer .ensures .1 .0) (answer-within _ _)
 
 array-share-prefix-page : tie.Need-array-share-prefix-page
 array-share-prefix-page c = within (c .before .before .before)

@@ -2,7 +2,7 @@
 -- nothing.
 use borrow.Author.Needs.{needs}
 use borrow.Author.Tests.{le-leb, lt-leb}
-use Rattle.route.specs.Stage.{afterFirst}
+use Rattle.route.specs.Inner.Stage.{afterFirst}
 use Rattle.route.proofs.course.Course.after_first.Statement.{statement}
 use Rattle.route.proofs.course.Course.after_first.Tie as tie
 

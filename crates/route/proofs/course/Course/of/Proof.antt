@@ -6,8 +6,8 @@ use lib.ListN.{length}
 use Rattle.board.proofs.Pegs.{third-peg}
 use Rattle.plan.proofs.Sound.{start-gatherable}
 use Rattle.plan.proofs.Bounds.{plan-fits}
-use Rattle.route.specs.Stage.{courseBy, courseOf}
-use Rattle.route.proofs.CoursePlan.{plan-pegs, plan-largest, either-peg}
+use Rattle.route.specs.Inner.Stage.{courseBy, courseOf}
+use Rattle.route.proofs.Courses.Plan.{plan-pegs, plan-largest, either-peg}
 use Rattle.route.proofs.course.Course.of.Statement.{statement}
 use Rattle.route.proofs.course.Course.of.Tie as tie
 

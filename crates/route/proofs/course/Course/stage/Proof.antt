@@ -2,7 +2,7 @@
 -- nothing.
 use borrow.Author.Needs.{needs}
 use borrow.Author.Tests.{le-leb, lt-leb}
-use Rattle.route.specs.Stage.{stageOf}
+use Rattle.route.specs.Inner.Stage.{stageOf}
 use Rattle.route.proofs.course.Course.stage.Statement.{statement}
 use Rattle.route.proofs.course.Course.stage.Tie as tie
 

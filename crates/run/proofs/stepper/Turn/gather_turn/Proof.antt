@@ -1,6 +1,6 @@
 -- `run::stepper::Turn::gather_turn` meets its contract: each of its calls is one of the two cases of a gathering's move. Assumes nothing.
 use mathlib.Core.Path.{_∙_, sym}
-use Rattle.run.specs.Stepper.{smallTurn, otherTurn}
+use Rattle.run.specs.Inner.Stepper.{smallTurn, otherTurn}
 use Rattle.run.proofs.Steps.{gather-small, gather-other}
 use Rattle.run.proofs.stepper.Turn.gather_turn.Statement.{statement}
 use Rattle.run.proofs.stepper.Turn.gather_turn.Tie as tie

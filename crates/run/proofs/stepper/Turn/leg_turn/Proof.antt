@@ -7,7 +7,7 @@ use borrow.Author.Needs.{needs}
 use borrow.Author.Tests.{eq-eqb, ne-eqb}
 use lib.Dec.{eqb}
 use Rattle.board.proofs.Pegs.{third-peg}
-use Rattle.run.specs.Stepper.{legTurn}
+use Rattle.run.specs.Inner.Stepper.{legTurn}
 use Rattle.run.proofs.stepper.Turn.leg_turn.Statement.{statement}
 use Rattle.run.proofs.stepper.Turn.leg_turn.Tie as tie
 

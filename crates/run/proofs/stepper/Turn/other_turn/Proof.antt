@@ -8,7 +8,7 @@ use native.Mathlib.Omega.{arith}
 use borrow.Author.Needs.{needs}
 use borrow.Author.Tests.{eq-eqb, ne-eqb}
 use Rattle.board.specs.Task.{limit}
-use Rattle.run.specs.Stepper.{discOn, second, last, otherFrom, otherTo, aimAfter, otherTurn}
+use Rattle.run.specs.Inner.Stepper.{discOn, second, last, otherFrom, otherTo, aimAfter, otherTurn}
 use Rattle.run.proofs.Steps.{other-second, other-last}
 use Rattle.run.proofs.stepper.Turn.other_turn.Statement.{statement}
 use Rattle.run.proofs.stepper.Turn.other_turn.Tie as tie

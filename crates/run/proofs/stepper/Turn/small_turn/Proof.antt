@@ -2,7 +2,7 @@
 -- Assumes nothing.
 use mathlib.Core.Path.{refl}
 use borrow.Author.Needs.{needs}
-use Rattle.run.specs.Stepper.{smallTurn}
+use Rattle.run.specs.Inner.Stepper.{smallTurn}
 use Rattle.run.proofs.stepper.Turn.small_turn.Statement.{statement}
 use Rattle.run.proofs.stepper.Turn.small_turn.Tie as tie
 

@@ -1,0 +1,65 @@
+// One line for each call: its name, and what it answers.
+ghost use Prim.Native.Nat.{_≤_};
+use show::text;
+
+fn heading(call: &[u8], name: &[u8]) {
+    text(call);
+    text(name);
+    text(b": ");
+}
+
+// The answer of Plan.
+pub fn plan(name: &[u8], task: &[u8]) {
+    heading(b"plan ", name);
+    show::planned(plan::plan(task));
+    text(b"\n");
+}
+
+// The answer of Gather.
+pub fn gather(name: &[u8], position: &[u8], peg: u8) {
+    heading(b"gather ", name);
+    show::gathered(plan::gather(position, peg));
+    text(b"\n");
+}
+
+// The answer of Move.
+pub fn move_at(name: &[u8], task: &[u8], route: u64, index: u64) {
+    heading(b"move ", name);
+    show::moving(route::move_at(task, route, index));
+    text(b"\n");
+}
+
+fn place_into(task: &[u8], route: u64, index: u64, buffer: &mut [u8]) {
+    let answer = route::place(task, route, index, buffer);
+    show::placed(answer, buffer);
+    text(b"\n");
+}
+
+// The answer of Place, and its buffer of so many bytes, which comes filled with dots.
+pub fn place(name: &[u8], task: &[u8], route: u64, index: u64, room: usize)
+    requires { ⌜ room ≤ 64 ⌝ }
+{
+    heading(b"place ", name);
+    place_into(task, route, index, &mut [b'.'; 64][..room]);
+}
+
+fn run_into(task: &[u8], route: u64, first: u64, buffer: &mut [u8]) {
+    let answer = run::run(task, route, first, buffer);
+    show::ran(answer, buffer);
+    text(b"\n");
+}
+
+// The answer of Run, and its buffer of so many bytes, which comes filled with dots.
+pub fn run(name: &[u8], task: &[u8], route: u64, first: u64, room: usize)
+    requires { ⌜ room ≤ 64 ⌝ }
+{
+    heading(b"run ", name);
+    run_into(task, route, first, &mut [b'.'; 64][..room]);
+}
+
+// The answer of Locate.
+pub fn locate(name: &[u8], task: &[u8], position: &[u8]) {
+    heading(b"locate ", name);
+    show::located(route::locate(task, position));
+    text(b"\n");
+}

@@ -1,0 +1,72 @@
+-- Demand 1 of Move, Place, Run and Locate: each is refused as its faults say and never else, and a refusal leaves the buffer as it stood.
+use Prim.Native.Nat.{ℕ, _-_, _/_, _≤_, _<_, min}
+use mathlib.Core.Bool.{Bool, true, false, not, _&&_, and-eq-true-iff}
+use mathlib.Core.List.{List}
+use mathlib.Core.Logic.{_≢_, _↔_}
+use mathlib.Core.Path.{_≡_, refl}
+use borrow.Author.Tests.{eqb-false, ne-eqb, ltb-true, ltb-false, lt-ltb, le-ltb, not-true}
+use lib.Dec.{eqb, ltb}
+use lib.ListN.{length}
+use Rattle.board.specs.Fault.{Obeys}
+use Rattle.board.specs.Position.{wellFormed}
+use Rattle.board.specs.Reply.{refused, check}
+use Rattle.board.specs.Task.{discs}
+use Rattle.board.proofs.Formed.{not-formed}
+use Rattle.board.proofs.Obeys.{answer-obeys, check-obeys, then-obeys}
+use Rattle.board.proofs.Tasks.{task-obeys}
+use Rattle.route.specs.Answer.{lengthOf, moveAnswer, placeAnswer, placeWrites, runAnswer, runWrites, locateAnswer}
+use Rattle.route.specs.Faults.{moveFaults, placeFaults, runFaults, locateFaults}
+use Rattle.route.proofs.Calls.Opened.{route-obeys}
+
+-- A test passes exactly where one number is below another.
+below : (a b : ℕ) → (ltb a b ≡ true) ↔ (a < b)
+below a b = (ltb-true a b, lt-ltb a b)
+
+-- It fails exactly where it is not.
+not-below : (a b : ℕ) → (not (ltb a b) ≡ true) ↔ (b ≤ a)
+not-below a b = ((λ e. ltb-false a b (not-true (ltb a b) e)), λ h. rw (le-ltb a b h))
+
+-- Two numbers differ exactly where the test fails.
+differ : (a b : ℕ) → (not (eqb a b) ≡ true) ↔ (a ≢ b)
+differ a b = ((λ e. eqb-false a b (not-true (eqb a b) e)), λ n. rw (ne-eqb a b n))
+
+-- Two tests pass together exactly where both facts hold.
+both : (a b c d : ℕ) → ((ltb a b && ltb c d) ≡ true) ↔ ((a < b) × (c < d))
+both a b c d = (
+  (λ e. let (x, y) = and-eq-true-iff (ltb a b) (ltb c d) .0 e in (ltb-true a b x, ltb-true c d y)),
+  λ (x, y). and-eq-true-iff (ltb a b) (ltb c d) .1 (lt-ltb a b x, lt-ltb c d y),
+)
+
+pub move-obeys : (t : List ℕ) (r i : ℕ) → Obeys (moveFaults t r i) (moveAnswer t r i)
+unfolding moveAnswer
+move-obeys t r i = then-obeys (route-obeys t r) (then-obeys (check-obeys _ 5 (not-below i (lengthOf t))) (answer-obeys _))
+
+pub place-obeys : (t : List ℕ) (r i : ℕ) (out : List ℕ) → Obeys (placeFaults t r i out) (placeAnswer t r i out)
+unfolding placeAnswer
+place-obeys t r i out =
+    then-obeys (route-obeys t r)
+    (then-obeys (check-obeys _ 5 (below (lengthOf t) i)) (check-obeys _ 6 (below (length out) (discs t))))
+
+pub run-obeys : (t : List ℕ) (r i : ℕ) (out : List ℕ) → Obeys (runFaults t r i out) (runAnswer t r i out)
+unfolding runAnswer
+run-obeys t r i out =
+    then-obeys (route-obeys t r)
+    (then-obeys (check-obeys _ 5 (below (lengthOf t) i))
+    (then-obeys (check-obeys _ 6 (both i (lengthOf t) (length out) 2)) (answer-obeys _)))
+
+pub locate-obeys : (t q : List ℕ) → Obeys (locateFaults t q) (locateAnswer t q)
+unfolding locateAnswer
+locate-obeys t q =
+    then-obeys (task-obeys t)
+    (then-obeys (check-obeys _ 7 (differ (length q) (discs t)))
+    (then-obeys (check-obeys _ 3 (not-formed q)) (answer-obeys _)))
+
+-- A refused Place leaves the buffer as it stood.
+pub place-kept : (t : List ℕ) (r i : ℕ) (out : List ℕ) {k : ℕ} → placeAnswer t r i out ≡ refused k → placeWrites t r i out ≡ out
+unfolding placeWrites
+place-kept t r i out e = rw e
+
+-- So does a refused Run.
+pub run-kept : (t : List ℕ) (r i : ℕ) (out : List ℕ) {k : ℕ} → runAnswer t r i out ≡ refused k → runWrites t r i out ≡ out
+unfolding runWrites
+run-kept t r i out e = rw e

@@ -1,0 +1,4 @@
+-- The move at an index of a route, and the position there, by the course of the route.
+pub mod Stages
+pub mod Found
+pub mod Plan

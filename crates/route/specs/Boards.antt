@@ -1,0 +1,82 @@
+-- The starred boards of document 01, "Boards to try": one table. That the rules reply so is one theorem, `boards-hold` (proofs/Boards).
+use Prim.Native.Nat.{ℕ}
+use mathlib.Core.List.{List, [], _∷_, _++_}
+use lib.ListN.{replicate}
+use Rattle.board.specs.Move.{Move}
+use Rattle.board.specs.Reply.{Reply, refused, answer}
+use Rattle.plan.specs.Answer.{gatherAnswer, planAnswer}
+use Rattle.plan.specs.Plan.{shortest, routes}
+use Rattle.plan.specs.declared.answer.Lengths.{Lengths}
+use Rattle.plan.specs.declared.answer.Plan.{Plan}
+use Rattle.plan.specs.declared.answer.Way.{Way}
+use Rattle.plan.specs.declared.answer.Way.the-variants.{Still, Direct, Detour, Tie}
+use Rattle.route.specs.Answer.{moveAnswer, Where, on, off, locateAnswer}
+use Rattle.route.specs.Route.{plain}
+use Rattle.route.specs.declared.answer.DiscMove.{DiscMove}
+
+-- A call of Gather, Plan, Move or Locate.
+pub data Call : Type 0 where
+  gathers : (position : List ℕ) (peg : ℕ) → Call
+  plans : (start goal : List ℕ) → Call
+  moves : (start goal : List ℕ) (route index : ℕ) → Call
+  locates : (start goal position : List ℕ) → Call
+
+-- What document 01 says of it: a refusal's number; a length; a way with its lengths, the fewest and how many routes; a move; a place.
+pub data Says : Type 0 where
+  refuses : (number : ℕ) → Says
+  stacks : (moves : ℕ) → Says
+  plan : (way : Way) (shortest routes : ℕ) → Says
+  move : Move → Says
+  place : Where → Says
+
+abbrev saysStack : Reply ℕ → Says
+saysStack (refused k) = refuses k
+saysStack (answer n) = stacks n
+
+abbrev saysPlan : Reply Plan → Says
+saysPlan (refused k) = refuses k
+saysPlan (answer p) = plan (p .way) (shortest p) (routes p)
+
+abbrev saysMove : Reply DiscMove → Says
+saysMove (refused k) = refuses k
+saysMove (answer m) = move (plain m)
+
+abbrev saysPlace : Reply Where → Says
+saysPlace (refused k) = refuses k
+saysPlace (answer w) = place w
+
+-- What the rules reply.
+abbrev pub replyTo : Call → Says
+replyTo (gathers p j) = saysStack (gatherAnswer p j)
+replyTo (plans s t) = saysPlan (planAnswer (s ++ t))
+replyTo (moves s t r i) = saysMove (moveAnswer (s ++ t) r i)
+replyTo (locates s t q) = saysPlace (locateAnswer (s ++ t) q)
+
+-- A call, and what document 01 says of it.
+pub record Board : Type 0 where
+  pub call : Call
+  pub says : Says
+
+abbrev board : Call → Says → Board
+board c r = record { call = c; says = r }
+
+-- The direct and the detour length.
+abbrev lengths : ℕ → ℕ → Lengths
+lengths d e = record { direct = d; detour = e }
+
+abbrev pub boards : List Board
+boards =
+    board (plans [] []) (plan Still 0 1)
+    ∷ board (plans (0 ∷ []) (2 ∷ [])) (plan (Direct (lengths 1 2)) 1 1)
+    ∷ board (plans (0 ∷ 0 ∷ []) (2 ∷ 2 ∷ [])) (plan (Direct (lengths 3 5)) 3 1)
+    ∷ board (plans (1 ∷ 0 ∷ []) (0 ∷ 1 ∷ [])) (plan (Tie (lengths 3 3)) 3 2)
+    ∷ board (plans (1 ∷ 1 ∷ 0 ∷ []) (0 ∷ 0 ∷ 1 ∷ [])) (plan (Detour (lengths 7 5)) 5 1)
+    ∷ board (plans (0 ∷ 1 ∷ 2 ∷ 0 ∷ 0 ∷ 1 ∷ []) (1 ∷ 2 ∷ 0 ∷ 1 ∷ 1 ∷ 0 ∷ [])) (plan (Detour (lengths 58 43)) 43 1)
+    ∷ board (moves (0 ∷ 1 ∷ 2 ∷ 0 ∷ 0 ∷ 1 ∷ []) (1 ∷ 2 ∷ 0 ∷ 1 ∷ 1 ∷ 0 ∷ []) 0 0) (move (record { from = 0; to = 1 }))
+    ∷ board (gathers (2 ∷ 1 ∷ 1 ∷ 2 ∷ 2 ∷ 1 ∷ []) 1) (stacks 25)
+    ∷ board (plans (replicate 60 0) (replicate 60 2)) (plan (Direct (lengths 1152921504606846975 1729382256910270463)) 1152921504606846975 1)
+    ∷ board (plans (replicate 61 0) (replicate 61 2)) (refuses 2)
+    ∷ board (locates (1 ∷ 0 ∷ []) (0 ∷ 1 ∷ []) (2 ∷ 0 ∷ [])) (place (on 1 0))
+    ∷ board (locates (1 ∷ 0 ∷ []) (0 ∷ 1 ∷ []) (1 ∷ 2 ∷ [])) (place (on 1 1))
+    ∷ board (locates (1 ∷ 0 ∷ []) (0 ∷ 1 ∷ []) (0 ∷ 0 ∷ [])) (place off)
+    ∷ []

@@ -1,0 +1,113 @@
+-- What Begin, Play and Report answer, and when: demand 1 of them, and the laws for whoever calls them.
+use Prim.Native.Nat.{ℕ}
+use mathlib.Core.Bool.{Bool, true, false, not, true≢false}
+use mathlib.Core.List.{List, append-nil}
+use mathlib.Core.Logic.{_≢_, _↔_}
+use mathlib.Core.Path.{_≡_, _∙_, refl, sym}
+use borrow.Author.Tests.{eqb-true, eqb-false, eq-eqb, not-true, not-false}
+use lib.Dec.{eqb}
+use Rattle.board.specs.Fault.{Faultless, Obeys, taskFaults}
+use Rattle.board.specs.Move.{Move, Legal}
+use Rattle.board.specs.Reply.{refused, answer, pass}
+use Rattle.board.proofs.Legality.{legal-accepted, legal-obeys}
+use Rattle.board.proofs.Obeys.{answer-obeys, check-obeys, then-obeys}
+use Rattle.board.proofs.Replies.{then-answered, check-answered}
+use Rattle.board.proofs.Tasks.{faultless-accepted, task-obeys}
+use Rattle.session.specs.Answer.{opened, beginAnswer, noSession, sessionOr, playCheck, moveMark, playAnswer, playedRecord, playLeaves, reportAnswer}
+use Rattle.session.specs.Counts.{playLimit, figuresOf}
+use Rattle.session.specs.Faults.{playFaults, reportFaults}
+use Rattle.session.specs.Record.{currentOf, firstOf, nowOf, positionsHeld, sound, Sound}
+use Rattle.session.specs.declared.counting.Figures.{Figures}
+use Rattle.session.specs.declared.counting.Mark.{Mark}
+use Rattle.session.specs.declared.record.Session.{Session}
+use Rattle.session.proofs.Soundness.{sound-record, record-sound}
+
+-- The test fails exactly where the record is not sound.
+unsound : (s : Session) → (not (sound s) ≡ true) ↔ (¬ Sound s)
+unsound s = ((λ e r. true≢false (sym (record-sound s r) ∙ not-true (sound s) e)), by (sound s) refl)
+  where
+    by : (b : Bool) → sound s ≡ b → ¬ Sound s → not b ≡ true
+    by true e n = absurd (n (sound-record s e))
+    by false e n = refl
+
+-- Begin is refused as the task faults say, and never else.
+pub begin-obeys : (t : List ℕ) → Obeys (taskFaults t) (beginAnswer t)
+unfolding beginAnswer
+begin-obeys t = rw (← append-nil (taskFaults t)) (then-obeys (task-obeys t) (answer-obeys _))
+
+-- Play is refused as its faults say, and never else.
+pub play-obeys : (s : Session) (m : Move) → Obeys (playFaults s m) (playAnswer s m)
+unfolding playAnswer playCheck
+play-obeys s m =
+    rw (← append-nil (playFaults s m))
+    (then-obeys
+    (then-obeys (check-obeys (not (sound s)) 10 (unsound s))
+    (then-obeys (check-obeys (eqb (s .counts .made) playLimit) 11 (eqb-true _ _, eq-eqb _ _)) (legal-obeys (currentOf s) m)))
+    (answer-obeys _))
+
+-- So is Report.
+pub report-obeys : (s : Session) → Obeys (reportFaults s) (reportAnswer s)
+unfolding reportAnswer
+report-obeys s = then-obeys (check-obeys (not (sound s)) 10 (unsound s)) (answer-obeys _)
+
+-- A refused play leaves the record as it stood.
+pub play-kept : (s : Session) (m : Move) {k : ℕ} → playAnswer s m ≡ refused k → playLeaves s m ≡ s
+unfolding playLeaves
+play-kept s m e = rw e
+
+-- A task without faults is begun.
+pub begin-accepts : (t : List ℕ) → Faultless (taskFaults t) → beginAnswer t ≡ answer (opened t)
+unfolding beginAnswer
+begin-accepts t none = rw (faultless-accepted t none)
+
+-- What stands beside a refusal of Begin is no sound record: Play and Report refuse it with 10.
+pub no-session-unsound : sound noSession ≡ false
+unfolding sound positionsHeld
+no-session-unsound = refl
+
+pub no-session-plays : (m : Move) → playAnswer noSession m ≡ refused 10
+unfolding playAnswer playCheck
+no-session-plays m = rw no-session-unsound
+
+pub no-session-reports : reportAnswer noSession ≡ refused 10
+unfolding reportAnswer
+no-session-reports = rw no-session-unsound
+
+pub begin-refused : (t : List ℕ) {k : ℕ} → beginAnswer t ≡ refused k → sessionOr (beginAnswer t) ≡ noSession
+begin-refused t e = rw e
+
+-- What a play that is marked finds: a sound record that is not full, and a legal move.
+pub record Accepted (s : Session) (m : Move) : Type 0 where
+  pub sounds : Sound s
+  pub more : s .counts .made ≢ playLimit
+  pub legal : Legal (currentOf s) m
+
+pub play-passed : (s : Session) (m : Move) → playCheck s m ≡ pass → Accepted s m
+unfolding playCheck
+play-passed s m h =
+    let (sounds, rest) = check-answered (not (sound s)) 10 _ h in
+    let (more, last) = check-answered (eqb (s .counts .made) playLimit) 11 _ rest in
+    record {
+      sounds = sound-record s (not-false (sound s) sounds);
+      more = eqb-false (s .counts .made) playLimit more;
+      legal = legal-accepted (currentOf s) m last;
+    }
+
+-- Its mark, and the record after it.
+pub record Marked (s : Session) (m : Move) (k : Mark) : Type 0 where
+  pub accepted : Accepted s m
+  pub mark : moveMark s m ≡ k
+  pub leaves : playLeaves s m ≡ playedRecord s m k
+
+pub play-answered : (s : Session) (m : Move) {k : Mark} → playAnswer s m ≡ answer k → Marked s m k
+unfolding playAnswer playLeaves
+play-answered s m {k} e =
+    let (passed, same) = then-answered (playCheck s m) _ e in
+    record { accepted = play-passed s m passed; mark = cc; leaves = rw e }
+
+-- What a report that is answered says.
+pub report-answered : (s : Session) {f : Figures} → reportAnswer s ≡ answer f → Sound s × (figuresOf (s .counts) (nowOf s) (firstOf s) ≡ f)
+unfolding reportAnswer
+report-answered s {f} e =
+    let (sounds, same) = check-answered (not (sound s)) 10 _ e in
+    (sound-record s (not-false (sound s) sounds), cc)

@@ -1,0 +1,49 @@
+-- `session::beginning::opened` meets its contract: the halves of an accepted task have at most 60 bytes each. Assumes nothing.
+use native.Mathlib.Omega.{arith}
+use borrow.Author.Needs.{needs}
+use lib.ListN.{length-take}
+use Rattle.board.proofs.Tasks.{SoundTask, task-accepted}
+use Rattle.plan.proofs.Parts.{part-to-end}
+use Rattle.session.proofs.beginning.opened.Statement.{statement}
+use Rattle.session.proofs.beginning.opened.Tie as tie
+
+-- The task is sound.
+sound : (c : tie.Start) → SoundTask (c .args .task .now)
+sound c = task-accepted (c .args .task .now) (c .pre)
+
+slice-aggregate-padded-array : tie.Need-slice-aggregate-padded-array
+slice-aggregate-padded-array c = simp length-take (omega arith)
+
+padded-array-requires : tie.Need-padded-array-requires
+padded-array-requires c κs = let s = sound (c .before .before) in omega arith
+
+sub-padded-array : tie.Need-sub-padded-array
+sub-padded-array c = search needs
+
+part-padded-array-start : tie.Need-part-padded-array-start
+part-padded-array-start c = search needs
+
+part-padded-array-end : tie.Need-part-padded-array-end
+part-padded-array-end c = search needs
+
+padded-array-requires-2 : tie.Need-padded-array-requires-2
+padded-array-requires-2 c κs = let s = sound (c .before .before .before .before) in rw part-to-end (omega arith)
+
+none-requires : tie.Need-none-requires
+none-requires c κs = search needs
+
+returns : tie.Need-returns
+returns c = rw (c .none .ensures, c .before .padded-array2 .ensures, c .before .before .before .padded-array .ensures, part-to-end)
+
+pub opened-spec : {M : Type 1} → statement M
+opened-spec =
+    tie.close
+    (tie.spec
+    slice-aggregate-padded-array
+    padded-array-requires
+    sub-padded-array
+    part-padded-array-start
+    part-padded-array-end
+    padded-array-requires-2
+    none-requires
+    returns)

@@ -1,0 +1,32 @@
+-- `session::playing::step` meets its contract: a refused play leaves the record, and an accepted one answers for itself. Assumes nothing.
+use mathlib.Core.Path.{_∙_, refl, sym, ap}
+use borrow.Author.Needs.{needs}
+use Rattle.board.specs.Refusal.{verdictReply}
+use Rattle.session.specs.Answer.{playAnswer, playLeaves}
+use Rattle.session.proofs.playing.step.Statement.{statement}
+use Rattle.session.proofs.playing.step.Tie as tie
+
+play-verdict-requires : tie.Need-play-verdict-requires
+play-verdict-requires c κs = search needs
+
+enum-known-why : tie.Need-enum-known-why
+enum-known-why c = search needs
+
+enum-told : tie.Need-enum-told
+enum-told c = search needs
+
+accepted-requires : tie.Need-accepted-requires
+accepted-requires c κs = sym (c .before .before .play-verdict .ensures) ∙ ap verdictReply (c .enum-told .given .1)
+
+-- The play is refused.
+returns : tie.Need-returns
+unfolding playAnswer playLeaves
+returns c = rw (← c .before .before .before .play-verdict .ensures, c .before .why .given .1) (refl, refl)
+
+returns-2 : tie.Need-returns-2
+returns-2 c = search needs
+
+pub step-spec : {M : Type 1} → statement M
+step-spec =
+    tie.close
+    (tie.spec play-verdict-requires enum-known-why enum-told accepted-requires returns returns-2)

@@ -1,0 +1,54 @@
+-- The counts of a session, and what a play and a report make of them (document 01, Begin, Play and Report).
+use Prim.Native.Nat.{ℕ, _+_, _-_}
+use mathlib.Core.Bool.{Bool, cond, _&&_}
+use lib.Dec.{eqb, ltb, leb}
+use Rattle.session.specs.declared.counting.Counts.{Counts}
+use Rattle.session.specs.declared.counting.Figures.{Figures}
+use Rattle.session.specs.declared.counting.Mark.{Mark}
+use Rattle.session.specs.declared.counting.Mark.the-variants.{Toward, Level, Away}
+
+-- The most plays that are counted.
+abbrev pub playLimit : ℕ
+playLimit = 1000000
+
+-- No play yet.
+abbrev pub noPlays : Counts
+noPlays = record { made = 0; toward = 0; level = 0; away = 0 }
+
+-- The mark of a play, from the fewest to the goal before it and after it.
+unfoldable pub markOf : ℕ → ℕ → Mark
+markOf before after = cond (ltb after before) Toward (cond (ltb before after) Away Level)
+
+-- 1 for the same mark, 0 for another.
+abbrev pub isMark : Mark → Mark → ℕ
+isMark Toward Toward = 1
+isMark Toward Level = 0
+isMark Toward Away = 0
+isMark Level Toward = 0
+isMark Level Level = 1
+isMark Level Away = 0
+isMark Away Toward = 0
+isMark Away Level = 0
+isMark Away Away = 1
+
+-- One play more: made rises by 1, and so does the count of its mark.
+unfoldable pub counted : Counts → Mark → Counts
+counted c k =
+    record {
+      made = c .made + 1;
+      toward = c .toward + isMark Toward k;
+      level = c .level + isMark Level k;
+      away = c .away + isMark Away k;
+    }
+
+-- made = toward + level + away, and made is at most 1,000,000.
+unfoldable pub countsAgree : Counts → Bool
+countsAgree c = eqb (c .made) (c .toward + c .level + c .away) && leb (c .made) playLimit
+
+-- The plays made beyond the fewest at the start, 0 where made is smaller.
+abbrev pub excessOf : Counts → ℕ → ℕ
+excessOf c first = c .made - first
+
+-- What a report says: the counts, what remains, and the excess, from the fewest to the goal now and at the start.
+abbrev pub figuresOf : Counts → ℕ → ℕ → Figures
+figuresOf c now first = record { counts = c; remaining = now; excess = excessOf c first }
