@@ -4,7 +4,7 @@ use mathlib.Core.Bool.{not}
 use mathlib.Core.List.{List, _++_}
 use mathlib.Core.Path.{_≡_, refl}
 use native.Mathlib.Omega.{arith}
-use borrow.Author.Tests.{eqb-true, eqb-false, eq-eqb, ltb-true, ltb-false, lt-ltb, ne-eqb, le-ltb, not-false}
+use borrow.Author.Tests.{eqb-true, eqb-false, eq-eqb, ltb-true, ltb-false, lt-ltb, not-false}
 use lib.Dec.{eqb, ltb}
 use lib.ListN.{length, length-append, length-take, length-drop}
 use lib.Seq.{take-at, drop-at}
@@ -50,11 +50,6 @@ task-accepted t h =
     let (few, pegs) = check-answered (ltb limit (discs t)) 2 _ rest in
     sound-task t (omega (arith, eqb-false (length t % 2) 1 even)) (ltb-false limit (discs t) few)
     (not-false (wellFormed t) (check-passed (not (wellFormed t)) 3 pegs))
-
--- A task of even length with at most `limit` discs and only pegs is accepted.
-pub sound-accepted : (t : List ℕ) → length t ≡ discs t + discs t → discs t ≤ limit → WellFormed t → taskCheck t ≡ pass
-unfolding taskCheck
-sound-accepted t even within formed = rw (ne-eqb (length t % 2) 1 (omega arith), le-ltb limit (discs t) within, formed)
 
 -- An accepted position is sound.
 pub position-accepted : (p : List ℕ) → positionCheck p ≡ pass → SoundPosition p

@@ -22,7 +22,7 @@ use Rattle.plan.specs.Gather.{gather}
 use Rattle.plan.specs.Plan.{planOf, shortest}
 use Rattle.plan.specs.Stacks.{Stacks}
 use Rattle.plan.specs.declared.answer.Plan.{Plan}
-use Rattle.plan.proofs.Optimal.{shortest-fewest, fewest-shortest, gather-fewest}
+use Rattle.plan.proofs.Optimal.{fewest-shortest, gather-fewest}
 
 -- Gather is refused as its faults say, and never else (demand 1).
 pub gather-obeys : (p : List ℕ) (j : ℕ) → Obeys (gatherFaults p j) (gatherAnswer p j)

@@ -9,10 +9,9 @@ use borrow.Author.Tests.{eqb-false}
 use lib.Dec.{eqb}
 use lib.ListN.{length, length-append}
 use Rattle.board.specs.Held.{padded}
-use Rattle.board.specs.Legal.{legalCheck}
-use Rattle.board.specs.Move.{Move, Legal, moved}
+use Rattle.board.specs.Move.{Move, Legal}
 use Rattle.board.specs.Position.{WellFormed}
-use Rattle.board.specs.Reply.{refused, answer, _>>_, _>>=_, Check, pass, check}
+use Rattle.board.specs.Reply.{refused, answer, _>>_, _>>=_, Check, pass}
 use Rattle.board.specs.Task.{discs, start, goal}
 use Rattle.board.proofs.Arrays.{padded-take, padded-holds, padded-moved, held-padded, holds-exactly}
 use Rattle.board.proofs.Formed.{formed-append}

@@ -4,12 +4,12 @@ use mathlib.Core.Bool.{Bool, true, false, not, true≢false}
 use mathlib.Core.List.{List, append-nil}
 use mathlib.Core.Logic.{_≢_, _↔_}
 use mathlib.Core.Path.{_≡_, _∙_, refl, sym}
-use borrow.Author.Tests.{eqb-true, eqb-false, eq-eqb, not-true, not-false}
+use borrow.Author.Tests.{eqb-true, eqb-false, eq-eqb, ne-eqb, not-true, not-false}
 use lib.Dec.{eqb}
 use Rattle.board.specs.Fault.{Faultless, Obeys, taskFaults}
 use Rattle.board.specs.Move.{Move, Legal}
 use Rattle.board.specs.Reply.{refused, answer, pass}
-use Rattle.board.proofs.Legality.{legal-accepted, legal-obeys}
+use Rattle.board.proofs.Legality.{legal-accepted, legal-passes, legal-obeys}
 use Rattle.board.proofs.Obeys.{answer-obeys, check-obeys, then-obeys}
 use Rattle.board.proofs.Replies.{then-answered, check-answered}
 use Rattle.board.proofs.Tasks.{faultless-accepted, task-obeys}
@@ -93,6 +93,13 @@ play-passed s m h =
       legal = legal-accepted (currentOf s) m last;
     }
 
+-- A legal move on a sound record that is not full is marked.
+pub play-accepts : (s : Session) (m : Move) → Sound s → s .counts .made ≢ playLimit → Legal (currentOf s) m
+    → playAnswer s m ≡ answer (moveMark s m)
+unfolding playAnswer playCheck
+play-accepts s m sounds more legal =
+    rw (record-sound s sounds, ne-eqb (s .counts .made) playLimit more, legal-passes (currentOf s) m legal)
+
 -- Its mark, and the record after it.
 pub record Marked (s : Session) (m : Move) (k : Mark) : Type 0 where
   pub accepted : Accepted s m
@@ -104,6 +111,11 @@ unfolding playAnswer playLeaves
 play-answered s m {k} e =
     let (passed, same) = then-answered (playCheck s m) _ e in
     record { accepted = play-passed s m passed; mark = cc; leaves = rw e }
+
+-- A sound record is reported.
+pub report-accepts : (s : Session) → Sound s → reportAnswer s ≡ answer (figuresOf (s .counts) (nowOf s) (firstOf s))
+unfolding reportAnswer
+report-accepts s sounds = rw (record-sound s sounds)
 
 -- What a report that is answered says.
 pub report-answered : (s : Session) {f : Figures} → reportAnswer s ≡ answer f → Sound s × (figuresOf (s .counts) (nowOf s) (firstOf s) ≡ f)

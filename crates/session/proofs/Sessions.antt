@@ -6,17 +6,17 @@ use native.Mathlib.Omega.{arith}
 use lib.ListN.{length}
 use Rattle.board.specs.Fewest.{fewest}
 use Rattle.board.specs.Move.{Move, Leads, done, next, moved}
-use Rattle.board.specs.Reply.{Reply, refused, answer, _>>_, Check}
+use Rattle.board.specs.Reply.{refused, answer, _>>_, Check}
 use Rattle.board.specs.Task.{start, goal, taskCheck}
-use Rattle.board.proofs.Replies.{refused-answer, then-answered}
+use Rattle.board.proofs.Replies.{then-answered}
 use Rattle.board.proofs.Tasks.{SoundTask, task-accepted}
 use Rattle.plan.proofs.OneMove.{moved-further, moved-nearer}
 use Rattle.session.specs.Answer.{opened, beginAnswer, reportAnswer}
 use Rattle.session.specs.Counts.{counted, figuresOf}
-use Rattle.session.specs.Demand3.{CountsOf, Says, Accounted}
+use Rattle.session.specs.Demand3.{Says, Accounted}
 use Rattle.session.specs.Record.{currentOf}
 use Rattle.session.specs.Sessions.{recordReply, recordNext, recordReplies, recordAfter, Play, withPlay, acceptedPlays, countMarks}
-use Rattle.session.specs.Tally.{Call, play, report, Said, marked, reports, Tally, fresh, tallyCheck, tallyMark, playedTally, tallyOr, tallied, tallyReply, tallyReplies, tallyAfter}
+use Rattle.session.specs.Tally.{Call, play, report, marked, reports, Tally, fresh, tallyCheck, tallyMark, playedTally, tallyOr, tallied, tallyReply, tallyReplies, tallyAfter}
 use Rattle.session.specs.declared.counting.Counts.{Counts}
 use Rattle.session.specs.declared.counting.Mark.{Mark}
 use Rattle.session.specs.declared.counting.Mark.the-variants.{Toward, Level, Away}

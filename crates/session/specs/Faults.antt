@@ -1,5 +1,5 @@
 -- The faults of Play and Report, as propositions (demand 1). Begin's are the task faults.
-use mathlib.Core.List.{List, [], _∷_, _++_}
+use mathlib.Core.List.{List, [], _∷_}
 use mathlib.Core.Path.{_≡_}
 use Rattle.board.specs.Fault.{Fault, fault, legalFaults}
 use Rattle.board.specs.Move.{Move}

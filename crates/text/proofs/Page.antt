@@ -1,12 +1,12 @@
 -- Texts put one after another.
 use Prim.Native.Nat.{ℕ, zero, suc, _+_, _*_, _<_, _≤_}
-use mathlib.Core.Path.{_≡_, _∙_, refl, sym}
+use mathlib.Core.Path.{_≡_, refl, sym}
 use mathlib.Core.List.{List, [], _∷_, _++_}
-use native.Mathlib.Nat.{zero-add, add-zero, add-suc}
+use native.Mathlib.Nat.{add-zero, add-suc}
 use native.Mathlib.Numerals.{add-one}
 use native.Mathlib.Omega.{arith}
 use lib.ListN.{length, getD, set, take, drop, length-append, length-take, drop-of-length-le}
-use lib.Seq.{sets, sets-eq, drop-cons, getD-take, length-take-le}
+use lib.Seq.{sets, drop-cons, getD-take, length-take-le}
 use Rattle.run.proofs.Letters.{sets-append}
 use Rattle.text.specs.Input.{space}
 use Rattle.text.specs.Inner.Page.{Puts, spaced}
@@ -65,7 +65,3 @@ spaced-pairs (suc count) (a ∷ b ∷ l) e = omega (arith, spaced-pairs count l 
 -- So the place after the moves is known.
 pub spaced-length : (letters : List ℕ) (count : ℕ) → 2 * count ≤ length letters → length (spaced (take (2 * count) letters)) ≡ 3 * count
 spaced-length letters count room = spaced-pairs count (take (2 * count) letters) (length-take-le (2 * count) letters room)
-
--- A text put at the start of a page that has room is the text, and then the page's other bytes as they stood: what the task program leaves.
-pub puts-written : {p t q : List ℕ} {end : ℕ} → Puts p 0 t q end → length t ≤ length p → q ≡ t ++ drop (length t) p
-puts-written {p} {t} x room = x .page ∙ sets-eq t p 0 (omega arith) ∙ rw zero-add

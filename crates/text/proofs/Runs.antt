@@ -1,12 +1,12 @@
 -- What Run writes of a whole route, put with spaces, is the route's text.
 use Prim.Native.Nat.{ℕ, _*_, _-_, _/_, _≤_, _<_, min}
-use mathlib.Core.Path.{_≡_, _∙_, sym, ap, refl}
+use mathlib.Core.Path.{_≡_, _∙_, ap, refl}
 use mathlib.Core.List.{List, [], _∷_, _++_}
 use native.Mathlib.Omega.{arith}
 use lib.ListN.{length, take}
 use lib.Seq.{take-at, take-all}
 use Rattle.board.specs.Reply.{answer, pass}
-use Rattle.board.specs.Task.{start, goal, taskCheck}
+use Rattle.board.specs.Task.{taskCheck}
 use Rattle.board.proofs.Tasks.{task-accepted}
 use Rattle.route.specs.Answer.{lengthOf, countOf, taskRoute, runAnswer, runWrites, letters}
 use Rattle.route.specs.Route.{routeOf}

@@ -9,7 +9,7 @@ ghost use Rattle.plan.specs.Plan.{planOf, routes};
 ghost use Rattle.route.specs.Answer.{lengthOf, countOf, taskRoute};
 ghost use Rattle.text.specs.Decimal.{decimal};
 ghost use Rattle.text.specs.Inner.Page.{Puts, spaced};
-ghost use Rattle.text.specs.Report.{line, directLabel, detourLabel, lengthLines, headText, routeText, routeLine, routeLines, reportText};
+ghost use Rattle.text.specs.Report.{line, directLabel, detourLabel, lengthLines, headText, routeText, routeLine, reportText};
 use crate::put::Page;
 use crate::put::put;
 use crate::put::put_decimal;

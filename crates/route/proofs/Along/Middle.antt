@@ -5,7 +5,7 @@ use mathlib.Core.List.{List, _∷_, _++_}
 use mathlib.Core.Logic.{_≢_}
 use native.Mathlib.Decide.{ℕ-discrete, decLe, decLt}
 use native.Mathlib.Omega.{arith}
-use lib.ListN.{length, take, drop, length-drop}
+use lib.ListN.{length, take, drop}
 use lib.Seq.{drop-append-le, drop-append-add, drop-nil}
 use Rattle.board.specs.Peg.{third}
 use Rattle.plan.specs.Gather.{gather}
@@ -81,17 +81,6 @@ middle p hp (suc k) j r hj b =
                 (middle (λ _. z) (λ _. h .third) k j r hj (omega (arith, gather-shift (λ _. z) k (three-turn (three-flip h)) (λ d f. refl))))
           ]
     ]
-
--- With r moves left, r moves are left.
-pub gather-along : (p : ℕ → ℕ) → Pegs p → (k j r : ℕ) → j < 3 → r ≤ gather p k j → gather (along p k j r) k j ≡ r
-gather-along p hp k j r hj b =
-    omega (
-      arith,
-      gathering-length (along p k j r) (along-pegs p hp k j r hj) k j hj,
-      ap length (middle p hp k j r hj b),
-      length-drop (gather p k j - r) (gathering p k j),
-      gathering-length p hp k j hj,
-    )
 
 -- Two walks by the same moves that end alike began alike.
 walk-began : {n : ℕ} {u u′ v v′ : ℕ → ℕ} {ms : List DiscMove} → Walk n u ms v → Walk n u′ ms v′

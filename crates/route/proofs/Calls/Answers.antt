@@ -8,14 +8,14 @@ use native.Mathlib.Omega.{arith}
 use borrow.Author.Tests.{eqb-true, eq-eqb, lt-ltb, le-ltb, ltb-true, ltb-false, not-false}
 use lib.Dec.{eqb, ltb}
 use lib.ListN.{length, take, drop, length-append, length-take, length-drop}
-use lib.Seq.{take-at, drop-at, getD-drop}
+use lib.Seq.{take-at, drop-at}
 use Rattle.board.specs.Move.{Leads, top}
 use Rattle.board.specs.Position.{wellFormed, WellFormed}
-use Rattle.board.specs.Reply.{answer, pass, check}
+use Rattle.board.specs.Reply.{answer, pass}
 use Rattle.board.specs.Task.{limit, discs, start, goal, taskCheck}
 use Rattle.board.proofs.Replies.{then-answered, check-answered, check-passed}
 use Rattle.board.proofs.Tasks.{SoundTask, task-accepted}
-use Rattle.route.specs.Answer.{lengthOf, countOf, taskRoute, routeCheck, moveAnswer, placeAnswer, placeWrites, runAnswer, runWrites, letters, Where, on, off, locatedAt, locateAnswer}
+use Rattle.route.specs.Answer.{lengthOf, taskRoute, routeCheck, moveAnswer, placeAnswer, placeWrites, runAnswer, runWrites, letters, Where, on, off, locatedAt, locateAnswer}
 use Rattle.route.specs.Ours.{readMoves}
 use Rattle.route.specs.Route.{plain, moveAt, after}
 use Rattle.route.specs.declared.answer.DiscMove.{DiscMove}

@@ -1,15 +1,14 @@
 -- Demand 1 of Move, Place, Run and Locate: each is refused as its faults say and never else, and a refusal leaves the buffer as it stood.
-use Prim.Native.Nat.{ℕ, _-_, _/_, _≤_, _<_, min}
-use mathlib.Core.Bool.{Bool, true, false, not, _&&_, and-eq-true-iff}
+use Prim.Native.Nat.{ℕ, _-_, _≤_, _<_}
+use mathlib.Core.Bool.{true, not, _&&_, and-eq-true-iff}
 use mathlib.Core.List.{List}
 use mathlib.Core.Logic.{_≢_, _↔_}
-use mathlib.Core.Path.{_≡_, refl}
+use mathlib.Core.Path.{_≡_}
 use borrow.Author.Tests.{eqb-false, ne-eqb, ltb-true, ltb-false, lt-ltb, le-ltb, not-true}
 use lib.Dec.{eqb, ltb}
 use lib.ListN.{length}
 use Rattle.board.specs.Fault.{Obeys}
-use Rattle.board.specs.Position.{wellFormed}
-use Rattle.board.specs.Reply.{refused, check}
+use Rattle.board.specs.Reply.{refused}
 use Rattle.board.specs.Task.{discs}
 use Rattle.board.proofs.Formed.{not-formed}
 use Rattle.board.proofs.Obeys.{answer-obeys, check-obeys, then-obeys}

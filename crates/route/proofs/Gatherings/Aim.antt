@@ -2,7 +2,6 @@
 use Prim.Native.Nat.{ℕ, zero, suc, _+_, _*_, _<_, _^_, _%_}
 use mathlib.Core.Path.{_≡_, _∙_, ap, sym, refl, subst}
 use mathlib.Core.Bool.{Bool, true, false, cond}
-use mathlib.Core.List.{_∷_}
 use mathlib.Core.Logic.{_≢_}
 use native.Mathlib.Decide.{ℕ-discrete}
 use native.Mathlib.Omega.{arith}
@@ -13,12 +12,11 @@ use Rattle.board.proofs.Pegs.{third-peg, third-same}
 use Rattle.plan.specs.Gather.{gather}
 use Rattle.plan.specs.Inner.Three.{Three}
 use Rattle.plan.proofs.Three.{three, three-third, three-swap, three-turn, three-flip}
-use Rattle.plan.proofs.Gathering.{Pegs, Tower}
+use Rattle.plan.proofs.Gathering.{Tower}
 use Rattle.plan.proofs.Step.{Step, Crossing, put, put-same, put-other, step-less, step-largest, step-crossing}
 use Rattle.route.specs.Inner.Aim.{aim}
-use Rattle.route.specs.Route.{carry, gathering}
 use Rattle.route.proofs.Walks.Walk.{step-grow}
-use Rattle.route.proofs.Shortest.Lowering.{crossing-target, lower-first}
+use Rattle.route.proofs.Shortest.Lowering.{crossing-target}
 
 -- The target is a peg.
 pub aim-peg : (u : ℕ → ℕ) (k j : ℕ) → j < 3 → aim u k j < 3
@@ -61,14 +59,6 @@ aim-less u k j n =
     let a = aim u k j in
     let e = aim-apart u (put u 0 a) (λ d o. sym (put-other u 0 a d o)) k j in
     omega (arith, rw (put-same u 0 a, eq-eqb a a refl, ne-eqb (u 0) a n) at e)
-
--- So that is the first move.
-pub aim-small : (u : ℕ → ℕ) → Pegs u → (k j : ℕ) → j < 3 → u 0 ≢ aim u k j
-    → gathering u (suc k) j ≡ carry 0 (u 0) (aim u k j) ∷ gathering (put u 0 (aim u k j)) (suc k) j
-aim-small u hu k j hj n =
-    let a = aim u k j in
-    lower-first (suc k) hu j hj (small-step u k a (hu 0) (aim-peg u k j hj) n) (aim-less u k j n)
-    ∙ rw (put-same u 0 a)
 
 -- Disc 1 is on its target: another disc moves first.
 pub aim-other : (u v : ℕ → ℕ) (k j : ℕ) → u 0 ≡ aim u k j → (s : Step (suc k) u v) → gather v (suc k) j + 1 ≡ gather u (suc k) j → 0 < s .disc

@@ -2,7 +2,7 @@
 use Prim.Native.Nat.{ℕ, suc, _-_, _<_}
 use mathlib.Core.List.{List, map}
 use mathlib.Core.Logic.{_≢_}
-use mathlib.Core.Path.{_≡_, _∙_, refl, sym, ap}
+use mathlib.Core.Path.{_≡_, _∙_, refl}
 use native.Mathlib.Omega.{arith}
 use lib.ListN.{length}
 use lib.Seq.{ext-getD}
@@ -22,7 +22,7 @@ use Rattle.route.proofs.Walks.Walk.{Walk, walk-grow}
 use Rattle.route.proofs.Walks.Leading.{walk-leads}
 use Rattle.route.proofs.Walks.Routes.{direct-walk, direct-length, detour-walk, detour-length}
 use Rattle.route.proofs.Shortest.Routes.{above-home}
-use Rattle.route.proofs.Shortest.View.{Largest, none, some, largest-view, WayView, direct-less, detour-less, equal, way-view, plan-still, plan-moving}
+use Rattle.route.proofs.Shortest.View.{none, some, largest-view, WayView, direct-less, detour-less, equal, way-view, plan-still, plan-moving}
 
 -- The way of two lengths has these.
 way-lengths : (m l : Lengths) → HasLengths (wayOf m) l → m ≡ l

@@ -19,7 +19,7 @@ put-answer-requires c κs = search needs
 array-share-prefix-own : tie.Need-array-share-prefix-own
 array-share-prefix-own c =
     let (puts, within) = c .put-answer .ensures in
-    rw (puts .page, length-sets, length-replicate) within
+    rw (puts .page, length-sets, length-replicate) (omega (arith, within))
 
 -- Its first bytes are the answer.
 made : (c : tie.After-put-answer) →

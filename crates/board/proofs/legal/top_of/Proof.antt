@@ -3,7 +3,7 @@ use mathlib.Core.Path.{_∙_}
 use borrow.Author.Needs.{needs}
 use native.Mathlib.Nat.{zero-add}
 use lib.Seq.{take-length}
-use Rattle.bytes.specs.Bytes.{slice, indexOf}
+use Rattle.bytes.specs.Bytes.{slice}
 use Rattle.board.proofs.Top.{top-index}
 use Rattle.board.proofs.legal.top_of.Statement.{statement}
 use Rattle.board.proofs.legal.top_of.Tie as tie
