@@ -47,16 +47,6 @@ padded-take p n e = take-at p _ n e
 pub padded-formed : (p : List ℕ) → WellFormed p → WellFormed (padded p)
 padded-formed p h = formed-append p _ h (formed-replicate (limit - length p) 0 (omega arith))
 
--- A position's array holds it.
-pub padded-holds : (p : List ℕ) (n : ℕ) → length p ≡ n → WellFormed p → holdsPosition n (padded p) ≡ true
-unfolding holdsPosition
-padded-holds p n e hp = rw (padded-take p n e, hp, drop-at p _ n e) (zeros-zero (limit - length p))
-
--- The used bytes that an array holds are well formed.
-pub held-formed : (n : ℕ) (a : List ℕ) → holdsPosition n a ≡ true → WellFormed (take n a)
-unfolding holdsPosition
-held-formed n a h = and-eq-true-iff (wellFormed (take n a)) (allZero (drop n a)) .0 h .0
-
 -- Zeros are 0 everywhere.
 zero-at : (a : List ℕ) → allZero a ≡ true → (d : ℕ) → getD a d 0 ≡ 0
 unfolding allZero
@@ -89,11 +79,22 @@ holds-exactly n a = (
       (formed, zero-all (drop n a) (λ d. getD-drop n a d 0 ∙ h .unused (n + d) (omega arith))),
 )
 
+-- A position's array holds it.
+pub padded-holds : (p : List ℕ) (n : ℕ) → length p ≡ n → WellFormed p → HoldsPosition n (padded p)
+unfolding holdsPosition
+padded-holds p n e hp =
+    holds-exactly n (padded p) .0 (rw (padded-take p n e, hp, drop-at p _ n e) (zeros-zero (limit - length p)))
+
+-- The used bytes that an array holds are well formed.
+pub held-formed : (n : ℕ) (a : List ℕ) → HoldsPosition n a → WellFormed (take n a)
+unfolding holdsPosition
+held-formed n a h = and-eq-true-iff (wellFormed (take n a)) (allZero (drop n a)) .0 (holds-exactly n a .1 h) .0
+
 -- An array that holds a position is that position's.
-pub held-padded : (n : ℕ) (a : List ℕ) → n ≤ limit → length a ≡ limit → holdsPosition n a ≡ true → a ≡ padded (take n a)
+pub held-padded : (n : ℕ) (a : List ℕ) → n ≤ limit → length a ≡ limit → HoldsPosition n a → a ≡ padded (take n a)
 unfolding holdsPosition
 held-padded n a within size h =
-    let zeros = zero-zeros (drop n a) (and-eq-true-iff (wellFormed (take n a)) (allZero (drop n a)) .0 h .1) in
+    let zeros = zero-zeros (drop n a) (and-eq-true-iff (wellFormed (take n a)) (allZero (drop n a)) .0 (holds-exactly n a .1 h) .1) in
     let left : length (drop n a) ≡ limit - length (take n a) = simp (length-drop, length-take) (omega arith) in
     sym (take-append-drop n a) ∙ ap (λ (b : List ℕ). take n a ++ b) (rw left at zeros)
 

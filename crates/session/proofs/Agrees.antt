@@ -8,34 +8,36 @@ use native.Mathlib.Omega.{arith}
 use borrow.Author.Tests.{eqb-false}
 use lib.Dec.{eqb}
 use lib.ListN.{length, length-append}
+use Rattle.board.specs.Fewest.{fewest}
 use Rattle.board.specs.Held.{padded}
 use Rattle.board.specs.Move.{Move, Legal}
 use Rattle.board.specs.Position.{WellFormed}
 use Rattle.board.specs.Reply.{refused, answer, _>>_, _>>=_, Check, pass}
 use Rattle.board.specs.Task.{discs, start, goal}
-use Rattle.board.proofs.Arrays.{padded-take, padded-holds, padded-moved, held-padded, holds-exactly}
+use Rattle.board.proofs.Arrays.{padded-take, padded-holds, padded-moved, held-padded}
 use Rattle.board.proofs.Formed.{formed-append}
 use Rattle.board.proofs.Legality.{legal-accepted}
 use Rattle.board.proofs.Replies.{check-answered}
 use Rattle.board.proofs.Tasks.{SoundTask, sound-task, joined-task}
 use Rattle.board.proofs.Top.{length-moved}
 use Rattle.plan.proofs.Moves.{formed-moved}
+use Rattle.plan.proofs.OneMove.{moved-further, moved-nearer}
 use Rattle.session.specs.Answer.{opened, playCheck, moveMark, playAnswer, playedRecord, recordOr, playLeaves, reportAnswer}
-use Rattle.session.specs.Counts.{playLimit}
+use Rattle.session.specs.Counts.{playLimit, Account}
 use Rattle.session.specs.Record.{startOf, goalOf, currentOf, sound, Sound}
 use Rattle.session.specs.Sessions.{heldBy, recordReply, recordNext}
 use Rattle.session.specs.Tally.{Call, play, report, marked, Tally, fresh, tallyCheck, tallyMark, playedTally, tallyOr, tallied, tallyReply}
 use Rattle.session.specs.declared.counting.Mark.{Mark}
 use Rattle.session.specs.declared.record.Session.{Session}
-use Rattle.session.proofs.Kept.{Kept, kept-first, kept-played}
-use Rattle.session.proofs.Soundness.{Sized, record-sound, sound-positions, start-ends, current-ends, current-length, sound-kept}
+use Rattle.session.proofs.Account.{account-first, account-played}
+use Rattle.session.proofs.Soundness.{Sized, record-sound, start-ends, current-ends, current-length}
 
 -- A record and a tally of a task agree: the record holds the tally, whose position is one of the task's and whose counts go with it.
 pub record Agrees (t : List ℕ) (y : Tally) (s : Session) : Type 0 where
   pub held : s ≡ heldBy t y
   pub sized : length (y .position) ≡ discs t
   pub formed : WellFormed (y .position)
-  pub kept : Kept (start t) (goal t) (y .position) (y .counts)
+  pub account : Account (y .counts) (fewest (y .position) (goal t)) (fewest (start t) (goal t))
 
 -- What a play that the tally accepts finds: it is not full, and the move is legal.
 pub record Accepts (y : Tally) (m : Move) : Type 0 where
@@ -52,7 +54,7 @@ module _ (t : List ℕ) (task : SoundTask t) where
   -- At first they agree.
   pub agrees-fresh : Agrees t (fresh t) (opened t)
   agrees-fresh =
-      record { held = refl; sized = task .start-length; formed = task .start-formed; kept = kept-first (start t) (goal t) }
+      record { held = refl; sized = task .start-length; formed = task .start-formed; account = account-first (fewest (start t) (goal t)) }
 
   module _ (y : Tally) (s : Session) (a : Agrees t y s) where
     -- The positions of the record that holds the tally.
@@ -70,13 +72,14 @@ module _ (t : List ℕ) (task : SoundTask t) where
     held-sound =
         record-sound (heldBy t y)
         (record {
-          few = task .within;
-          start-held = holds-exactly _ _ .0 (padded-holds (start t) (discs t) (task .start-length) (task .start-formed));
-          goal-held = holds-exactly _ _ .0 (padded-holds (goal t) (discs t) (task .goal-length) (task .goal-formed));
-          current-held = holds-exactly _ _ .0 (padded-holds (y .position) (discs t) (a .sized) (a .formed));
-          sum = a .kept .sum;
-          within = a .kept .within;
-          marks = rw (current-held, start-held, goal-held) (a .kept .marks);
+          positions =
+              record {
+                few = task .within;
+                start = padded-holds (start t) (discs t) (task .start-length) (task .start-formed);
+                goal = padded-holds (goal t) (discs t) (task .goal-length) (task .goal-formed);
+                current = padded-holds (y .position) (discs t) (a .sized) (a .formed);
+              };
+          account = rw (current-held, start-held, goal-held) (a .account);
         })
 
     -- So a record that agrees with a tally is sound.
@@ -123,7 +126,9 @@ module _ (t : List ℕ) (task : SoundTask t) where
           held = held-played m (tallyMark t y m) (p .legal);
           sized = length-moved (y .position) m ∙ a .sized;
           formed = formed-moved (y .position) m (a .formed) (p .legal);
-          kept = kept-played same (a .formed) (task .goal-formed) (p .legal) (p .more) (a .kept);
+          account =
+              account-played (moved-further (y .position) (goal t) m same (a .formed) (task .goal-formed) (p .legal))
+              (moved-nearer (y .position) (goal t) m same (a .formed) (task .goal-formed) (p .legal)) (p .more) (a .account);
         }
 
     -- They agree after every call.
@@ -148,7 +153,7 @@ module _ (s : Session) (z : Sized s) (r : Sound s) where
   -- Every sound record is one that holds a tally: its task is sound ..
   pub sound-task-of : SoundTask (taskOf s)
   sound-task-of =
-      let ends = start-ends z (sound-positions r) in
+      let ends = start-ends z (r .positions) in
       let (half, _, _) = joined-task (startOf s) (goalOf s) (ends .same) in
       sound-task (taskOf s) (omega (arith, length-append (startOf s) (goalOf s), ends .same)) (omega (arith, ends .within))
       (formed-append (startOf s) (goalOf s) (ends .start-formed) (ends .goal-formed))
@@ -156,7 +161,7 @@ module _ (s : Session) (z : Sized s) (r : Sound s) where
   -- .. and it agrees with its own tally.
   pub sound-agrees : Agrees (taskOf s) (tallyOf s) s
   sound-agrees =
-      let p = sound-positions r in
+      let p = r .positions in
       let ends = start-ends z p in
       let stands = current-ends z p in
       let size = current-length z p in
@@ -176,7 +181,7 @@ module _ (s : Session) (z : Sized s) (r : Sound s) where
             };
         sized = size ∙ sym discs-are;
         formed = stands .start-formed;
-        kept = rw (first, second) (sound-kept r);
+        account = rw (first, second) (r .account);
       }
 
   -- So a play keeps a sound record sound.

@@ -1,6 +1,6 @@
 -- Demand 3, and the laws of sessions that lead to it.
 pub mod Marks
-pub mod Kept
+pub mod Account
 pub mod Soundness
 pub mod Agrees
 pub mod Sessions

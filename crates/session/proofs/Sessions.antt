@@ -128,7 +128,7 @@ module _ (t : List ℕ) (task : SoundTask t) where
             rw (after-one (opened t) before (play m))
             (reply-says (tallyAfter t (fresh t) before) (recordAfter (opened t) before)
             (agrees-after t task (fresh t) (opened t) (agrees-fresh t task) before) m k e);
-        balance = rw (current, a .held) (a .kept .marks);
+        balance = rw (current, a .held) (a .account .marks);
         reports = record { figures = _; answered = report-after cs; counts = refl; remaining = refl; excess = refl };
         replies = replies;
         holds = a .held;

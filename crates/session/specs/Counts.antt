@@ -1,6 +1,7 @@
 -- The counts of a session, and what a play and a report make of them (document 01, Begin, Play and Report).
-use Prim.Native.Nat.{ℕ, _+_, _-_}
+use Prim.Native.Nat.{ℕ, _+_, _-_, _≤_}
 use mathlib.Core.Bool.{Bool, cond, _&&_}
+use mathlib.Core.Path.{_≡_}
 use lib.Dec.{eqb, ltb, leb}
 use Rattle.session.specs.declared.counting.Counts.{Counts}
 use Rattle.session.specs.declared.counting.Figures.{Figures}
@@ -41,9 +42,19 @@ counted c k =
       away = c .away + isMark Away k;
     }
 
--- made = toward + level + away, and made is at most 1,000,000.
+-- The test that the counts add up: made = toward + level + away, and made is at most 1,000,000.
 unfoldable pub countsAgree : Counts → Bool
 countsAgree c = eqb (c .made) (c .toward + c .level + c .away) && leb (c .made) playLimit
+
+-- The test that the marks account for the way: toward − away is the fewest at the start less the fewest now.
+unfoldable pub marksAgree : Counts → ℕ → ℕ → Bool
+marksAgree c now first = eqb (c .toward + now) (c .away + first)
+
+-- Both as a proposition. The law `account-exactly` (proofs/Account) says that the tests pass exactly here.
+pub record Account (c : Counts) (now first : ℕ) : Type 0 where
+  pub sum : c .made ≡ c .toward + c .level + c .away
+  pub within : c .made ≤ playLimit
+  pub marks : c .toward + now ≡ c .away + first
 
 -- The plays made beyond the fewest at the start, 0 where made is smaller.
 abbrev pub excessOf : Counts → ℕ → ℕ

@@ -1,14 +1,13 @@
 -- The session record, and when it is sound (document 01, Begin and Play).
-use Prim.Native.Nat.{ℕ, _+_, _≤_}
+use Prim.Native.Nat.{ℕ, _≤_}
 use mathlib.Core.Bool.{Bool, _&&_}
 use mathlib.Core.List.{List}
-use mathlib.Core.Path.{_≡_}
-use lib.Dec.{eqb, leb}
+use lib.Dec.{leb}
 use lib.ListN.{take}
 use Rattle.board.specs.Fewest.{fewest}
 use Rattle.board.specs.Held.{holdsPosition, HoldsPosition}
 use Rattle.board.specs.Task.{limit}
-use Rattle.session.specs.Counts.{playLimit, countsAgree}
+use Rattle.session.specs.Counts.{countsAgree, marksAgree, Account}
 use Rattle.session.specs.declared.record.Session.{Session}
 
 -- The positions of a record: its first n bytes.
@@ -28,7 +27,7 @@ firstOf s = fewest (startOf s) (goalOf s)
 abbrev pub nowOf : Session → ℕ
 nowOf s = fewest (currentOf s) (goalOf s)
 
--- n is at most 60, used bytes are at most 2, unused bytes 0.
+-- The test that n is at most 60, used bytes are at most 2 and unused bytes 0.
 unfoldable pub positionsHeld : Session → Bool
 positionsHeld s =
     leb (s .n) limit
@@ -36,20 +35,17 @@ positionsHeld s =
     && (holdsPosition (s .n) (s .goal)
     && holdsPosition (s .n) (s .current)))
 
--- toward − away = fewest(start, goal) − fewest(current, goal).
-unfoldable pub marksAgree : Session → Bool
-marksAgree s = eqb (s .counts .toward + nowOf s) (s .counts .away + firstOf s)
-
--- The test that a record is sound.
+-- The test that a record is sound: its positions are, and its counts account for them.
 unfoldable pub sound : Session → Bool
-sound s = positionsHeld s && (countsAgree (s .counts) && marksAgree s)
+sound s = positionsHeld s && (countsAgree (s .counts) && marksAgree (s .counts) (nowOf s) (firstOf s))
 
--- The same as a proposition. The law `sound-exactly` (proofs/Soundness) says that the test passes exactly here.
-pub record Sound (s : Session) : Type 0 where
+-- The same as propositions. The laws `positions-exactly` and `sound-exactly` (proofs/Soundness) say that the tests pass exactly here.
+pub record PositionsHeld (s : Session) : Type 0 where
   pub few : s .n ≤ limit
-  pub start-held : HoldsPosition (s .n) (s .start)
-  pub goal-held : HoldsPosition (s .n) (s .goal)
-  pub current-held : HoldsPosition (s .n) (s .current)
-  pub sum : s .counts .made ≡ s .counts .toward + s .counts .level + s .counts .away
-  pub within : s .counts .made ≤ playLimit
-  pub marks : s .counts .toward + nowOf s ≡ s .counts .away + firstOf s
+  pub start : HoldsPosition (s .n) (s .start)
+  pub goal : HoldsPosition (s .n) (s .goal)
+  pub current : HoldsPosition (s .n) (s .current)
+
+pub record Sound (s : Session) : Type 0 where
+  pub positions : PositionsHeld s
+  pub account : Account (s .counts) (nowOf s) (firstOf s)

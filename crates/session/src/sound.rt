@@ -6,8 +6,8 @@ ghost use lib.ListN.{take};
 ghost use Rattle.board.specs.Fewest.{fewest};
 ghost use Rattle.board.specs.Task.{limit};
 ghost use Rattle.plan.specs.Inner.Sound.{Ends};
-ghost use Rattle.session.specs.Counts.{countsAgree};
-ghost use Rattle.session.specs.Record.{positionsHeld, marksAgree, sound};
+ghost use Rattle.session.specs.Counts.{countsAgree, marksAgree};
+ghost use Rattle.session.specs.Record.{firstOf, nowOf, positionsHeld, sound};
 use crate::record::Session;
 use board::LIMIT;
 use board::holds_position;
@@ -36,7 +36,7 @@ pub fn fewest_held(n: usize, from: [u8; LIMIT], to: [u8; LIMIT]) -> u64
 fn marks_agree(s: Session) -> bool
     requires { ⌜ positionsHeld s ≡ true ⌝ }
     requires { ⌜ countsAgree (s .counts) ≡ true ⌝ }
-    ensures { λ r. ⌜ r ≡ marksAgree s ⌝ }
+    ensures { λ r. ⌜ r ≡ marksAgree (s .counts) (nowOf s) (firstOf s) ⌝ }
 {
     let start = s.start;
     let goal = s.goal;

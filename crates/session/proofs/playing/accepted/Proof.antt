@@ -8,9 +8,10 @@ use lib.Seq.{take-set-lt}
 use Rattle.board.specs.Move.{moved}
 use Rattle.plan.proofs.Sound.{moved-ends}
 use Rattle.session.specs.Answer.{moveMark, playAnswer, playedRecord, playLeaves}
-use Rattle.session.specs.Record.{currentOf}
+use Rattle.session.specs.Record.{currentOf, PositionsHeld}
+use Rattle.session.proofs.Account.{account-counts}
 use Rattle.session.proofs.Calls.{Accepted, play-passed}
-use Rattle.session.proofs.Soundness.{Sized, Positions, counts-agree, sound-positions, current-ends, current-room, current-length}
+use Rattle.session.proofs.Soundness.{Sized, current-ends, current-room, current-length}
 use Rattle.session.proofs.playing.accepted.Statement.{statement}
 use Rattle.session.proofs.playing.accepted.Tie as tie
 
@@ -22,8 +23,8 @@ sized c = search needs
 playable : (c : tie.Start) → Accepted (c .args .s) (record { from = c .args .from; to = c .args .to })
 playable c = play-passed _ _ (c .pre)
 
-positions : (c : tie.Start) → Positions (c .args .s)
-positions c = sound-positions (playable c .sounds)
+positions : (c : tie.Start) → PositionsHeld (c .args .s)
+positions c = playable c .sounds .positions
 
 -- The disc that moves is one of the n.
 disc-within : (c : tie.After-top-of) → c .top-of .result < c .before .before .before .before .before .before .args .s .n
@@ -65,8 +66,7 @@ of-requires c κs = search needs
 
 with-requires : tie.Need-with-requires
 with-requires c κs =
-    let sounds = playable (c .before .before .before .before .before .before .before .before) .sounds in
-    counts-agree _ (sounds .sum) (sounds .within)
+    account-counts (playable (c .before .before .before .before .before .before .before .before) .sounds .account)
 
 -- The mark and the record after the play are the rule's.
 returns : tie.Need-returns

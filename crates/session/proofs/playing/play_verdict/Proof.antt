@@ -4,8 +4,8 @@ use mathlib.Core.Path.{_≡_, _∙_, sym}
 use borrow.Author.Needs.{needs}
 use borrow.Author.Tests.{eq-eqb, ne-eqb, not-true, not-false}
 use Rattle.session.specs.Answer.{playCheck}
-use Rattle.session.specs.Record.{sound}
-use Rattle.session.proofs.Soundness.{Sized, Positions, sound-record, sound-positions, current-room, current-length}
+use Rattle.session.specs.Record.{sound, PositionsHeld}
+use Rattle.session.proofs.Soundness.{Sized, sound-record, current-room, current-length}
 use Rattle.session.proofs.playing.play_verdict.Statement.{statement}
 use Rattle.session.proofs.playing.play_verdict.Tie as tie
 
@@ -17,8 +17,8 @@ sized c = search needs
 passed : (c : tie.Else1) → sound (c .before .before .args .s) ≡ true
 passed c = sym (c .before .is-sound .ensures) ∙ not-false _ (c .if1 .left)
 
-positions : (c : tie.Else1) → Positions (c .before .before .args .s)
-positions c = sound-positions (sound-record _ (passed c))
+positions : (c : tie.Else1) → PositionsHeld (c .before .before .args .s)
+positions c = sound-record _ (passed c) .positions
 
 is-sound-requires : tie.Need-is-sound-requires
 is-sound-requires c κs = search needs

@@ -1,6 +1,7 @@
 -- `session::reporting::figures` meets its contract: the positions of a sound record are ends. Assumes nothing.
 use borrow.Author.Needs.{needs}
-use Rattle.session.proofs.Soundness.{Sized, Positions, sound-record, sound-positions, start-ends, current-ends}
+use Rattle.session.specs.Record.{PositionsHeld}
+use Rattle.session.proofs.Soundness.{Sized, sound-record, start-ends, current-ends}
 use Rattle.session.proofs.reporting.figures.Statement.{statement}
 use Rattle.session.proofs.reporting.figures.Tie as tie
 
@@ -8,8 +9,8 @@ use Rattle.session.proofs.reporting.figures.Tie as tie
 sized : (c : tie.Start) → Sized (c .args .s)
 sized c = search needs
 
-positions : (c : tie.Start) → Positions (c .args .s)
-positions c = sound-positions (sound-record (c .args .s) (c .pre))
+positions : (c : tie.Start) → PositionsHeld (c .args .s)
+positions c = sound-record (c .args .s) (c .pre) .positions
 
 fewest-held-requires : tie.Need-fewest-held-requires
 fewest-held-requires c κs =

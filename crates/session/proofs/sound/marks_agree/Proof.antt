@@ -1,8 +1,10 @@
 -- `session::sound::marks_agree` meets its contract: the positions are ends, and the sums fit. Assumes nothing.
 use native.Mathlib.Omega.{arith}
 use borrow.Author.Needs.{needs}
-use Rattle.session.specs.Record.{marksAgree}
-use Rattle.session.proofs.Soundness.{Sized, Positions, positions-held, counts-sum, counts-few, start-ends, current-ends}
+use Rattle.session.specs.Counts.{marksAgree}
+use Rattle.session.specs.Record.{PositionsHeld}
+use Rattle.session.proofs.Account.{counts-sum, counts-few}
+use Rattle.session.proofs.Soundness.{Sized, positions-held, start-ends, current-ends}
 use Rattle.session.proofs.sound.marks_agree.Statement.{statement}
 use Rattle.session.proofs.sound.marks_agree.Tie as tie
 
@@ -10,7 +12,7 @@ use Rattle.session.proofs.sound.marks_agree.Tie as tie
 sized : (c : tie.Start) → Sized (c .args .s)
 sized c = search needs
 
-positions : (c : tie.Start) → Positions (c .args .s)
+positions : (c : tie.Start) → PositionsHeld (c .args .s)
 positions c = positions-held (c .args .s) (c .pre .0)
 
 fewest-held-requires : tie.Need-fewest-held-requires

@@ -5,7 +5,7 @@ use native.Mathlib.Nat.{add-zero}
 use native.Mathlib.Omega.{arith}
 use borrow.Author.Needs.{needs}
 use Rattle.session.specs.Counts.{playLimit, counted}
-use Rattle.session.proofs.Soundness.{counts-sum, counts-few}
+use Rattle.session.proofs.Account.{counts-sum, counts-few}
 use Rattle.session.proofs.counting.Counts.with.Statement.{statement}
 use Rattle.session.proofs.counting.Counts.with.Tie as tie
 
