@@ -2,6 +2,7 @@
 pub mod Pegs
 pub mod Formed
 pub mod Top
+pub mod Leads
 pub mod Search
 pub mod Replies
 pub mod Obeys

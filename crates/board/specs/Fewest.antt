@@ -21,7 +21,7 @@ same [] (c ∷ q) = false
 same (b ∷ p) [] = false
 same (b ∷ p) (c ∷ q) = eqb b c && same p q
 
--- The test that a move is legal.
+-- The test that a move between two pegs is legal.
 unfoldable pub legal : List ℕ → Move → Bool
 legal p m = not (eqb (m .from) (m .to)) && (ltb (top p (m .from)) (length p) && ltb (top p (m .from)) (top p (m .to)))
 

@@ -1,5 +1,5 @@
-ghost use Prim.Native.Nat.{_<_};
 // Faulty calls, one fault at a time and then several: the first in document 01's order is answered.
+ghost use Prim.Native.Nat.{_<_};
 use crate::lines;
 
 fn byte_at(task: [u8; 120], place: usize, byte: u8) -> [u8; 120]

@@ -1,15 +1,19 @@
 // A first session: the fewest moves of a task, two plays, and the report.
 mod own;
 
+use board::Verdict;
 use plan::Planned;
 use session::Played;
 use session::Reported;
+use session::Session;
 
 fn main() {
     let task = b"\x01\x00\x00\x01"; // [1, 0] to [0, 1]: the start's pegs, smallest disc first, then the goal's
     fewest(task);
     session_on(task);
-    session_on(b"\x01\x00\x00"); // an odd length: Begin refuses it, and its record is no session
+    let odd = b"\x01\x00\x00";
+    session_on(odd);
+    overlooked(odd);
     proved(task);
 }
 
@@ -25,16 +29,35 @@ fn fewest(task: &[u8]) {
     }
 }
 
-// The subject moves a disc from B to C, and then tries to move one from B, which is empty.
+// A session on a task, or the number of its fault.
 fn session_on(task: &[u8]) {
     let begun = session::begin(task);
-    let first = session::step(begun.session, 1, 2);
-    let marked = first.played; // a field that is an enum is copied before it is passed or matched
+    let verdict = begun.verdict; // a field that is an enum is copied before it is matched or passed
+    match verdict {
+        Verdict::Refused(why) => refusal(why.number()),
+        Verdict::Accepted => plays(begun.session),
+    }
+}
+
+// The subject moves a disc from B to C, and then tries to move one from B, which is empty.
+fn plays(record: Session) {
+    let first = session::step(record, 1, 2);
+    let marked = first.played;
     answer(marked);
     let second = session::step(first.session, 1, 0);
     let refused = second.played;
     answer(refused);
-    match session::report(second.session) {
+    report(second.session);
+}
+
+// Toward, level or away, or refused with 8 where the peg is empty.
+fn answer(played: Played) {
+    show::played(played);
+    show::text(b"\n");
+}
+
+fn report(record: Session) {
+    match session::report(record) {
         Reported::Report(figures) => {
             show::named(b"remaining ", figures.remaining);
             show::named(b", excess ", figures.excess);
@@ -44,15 +67,15 @@ fn session_on(task: &[u8]) {
     }
 }
 
-// Toward, level or away, or refused with 8 where the peg is empty.
-fn answer(played: Played) {
-    show::played(played);
-    show::text(b"\n");
-}
-
 fn refusal(number: u64) {
     show::named(b"refused ", number);
     show::text(b"\n");
+}
+
+// Who overlooks that Begin refused holds a record that is not sound, and gets 10.
+fn overlooked(task: &[u8]) {
+    let begun = session::begin(task);
+    report(begun.session);
 }
 
 // Functions of one's own, with contracts that follow from the library's laws.

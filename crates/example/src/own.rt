@@ -13,7 +13,7 @@ use plan::Planned;
 use route::Located;
 use session::Reported;
 
-// The fewest moves of a task, or 0 where it is refused.
+// Of a task without faults, the fewest moves; of any other the contract says nothing.
 pub fn fewest_of(task: &[u8]) -> u64
     ensures { λ r. ⌜ (Faultless (taskFaults (now (task .entry))) → r ≡ fewest (start (now (task .entry))) (goal (now (task .entry)))) ⌝ }
 {
@@ -44,7 +44,7 @@ pub fn leads_back(task: &[u8], route: u64, index: u64) -> bool
     }
 }
 
-// The moves that remain after a list of plays, each a from and a to, or 0 where the task is refused.
+// Of a task without faults, the moves that remain after a list of plays, each a from and a to.
 pub fn remaining_after(task: &[u8], plays: &[u8]) -> u64
     ensures { λ r. ⌜ (Faultless (taskFaults (now (task .entry))) → r ≡ fewest (currentOf (recordAfter (opened (now (task .entry))) (callsFrom (now (plays .entry))))) (goal (now (task .entry)))) ⌝ }
 {

@@ -43,12 +43,12 @@ unfolding planAnswer
 plan-accepts t none = rw (faultless-accepted t none)
 
 -- What an answered plan says: its task is sound, and it is the plan of the rules.
-pub record Opened (t : List ℕ) (p : Plan) : Type 0 where
+pub record PlanAnswered (t : List ℕ) (p : Plan) : Type 0 where
   pub accepted : taskCheck t ≡ pass
   pub sound : SoundTask t
   pub plan : planOf (start t) (goal t) ≡ p
 
-pub plan-answered : (t : List ℕ) {p : Plan} → planAnswer t ≡ answer p → Opened t p
+pub plan-answered : (t : List ℕ) {p : Plan} → planAnswer t ≡ answer p → PlanAnswered t p
 unfolding planAnswer
 plan-answered t e =
     let (accepted, same) = then-answered (taskCheck t) (answer (planOf (start t) (goal t))) e in
@@ -67,13 +67,13 @@ plan-fewest t e =
     rw (← o .plan) (sym (fewest-shortest (start t) (goal t) (s .start-length ∙ sym (s .goal-length)) (s .start-formed) (s .goal-formed)))
 
 -- A length that Gather answers is the rule's, and the fewest that stack the position on the peg.
-pub record Stacked (p : List ℕ) (j k : ℕ) : Type 0 where
+pub record GatherAnswered (p : List ℕ) (j k : ℕ) : Type 0 where
   pub sound : SoundPosition p
   pub target : j < 3
   pub rule : k ≡ gather (peg p) (length p) j
   pub fewest : Fewest p (replicate (length p) j) k
 
-pub gather-answered : (p : List ℕ) (j : ℕ) {k : ℕ} → gatherAnswer p j ≡ answer k → Stacked p j k
+pub gather-answered : (p : List ℕ) (j : ℕ) {k : ℕ} → gatherAnswer p j ≡ answer k → GatherAnswered p j k
 unfolding gatherAnswer
 gather-answered p j {k} e =
     let (position, rest) = then-answered (positionCheck p) _ e in

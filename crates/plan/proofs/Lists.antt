@@ -12,7 +12,8 @@ use Rattle.board.proofs.Top.{length-moved}
 use Rattle.plan.proofs.Step.{step-back}
 use Rattle.plan.proofs.Distance.{dist, dist-self, dist-zero, step-dist}
 use Rattle.plan.proofs.Nearer.{dist-lower}
-use Rattle.plan.proofs.Moves.{formed-moved, legal-step, stepMove, step-legal, step-moved}
+use Rattle.board.proofs.Leads.{formed-moved}
+use Rattle.plan.proofs.Moves.{legal-step, stepMove, step-legal, step-moved}
 
 -- Every list that leads from p to q has at least as many moves as the distance.
 pub leads-dist : {p q : List ℕ} {ms : List Move} → WellFormed p → WellFormed q → Leads p ms q → dist (peg p) (peg q) (length p) ≤ length ms

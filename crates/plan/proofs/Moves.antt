@@ -9,15 +9,10 @@ use lib.ListN.{length}
 use Rattle.board.specs.Peg.{third}
 use Rattle.board.specs.Position.{peg, WellFormed}
 use Rattle.board.specs.Move.{Move, Legal, top, moved}
-use Rattle.board.proofs.Formed.{formed-pegs, formed-set}
+use Rattle.board.proofs.Formed.{formed-pegs}
 use Rattle.board.proofs.Top.{top-on, top-before, top-at, top-after, moved-disc, moved-others}
 use Rattle.plan.proofs.Three.{three}
 use Rattle.plan.proofs.Step.{Step}
-
--- A legal move leaves a well-formed position.
-pub formed-moved : (p : List ℕ) (m : Move) → WellFormed p → Legal p m → WellFormed (moved p m)
-unfolding moved
-formed-moved p m hp l = formed-set p (top p (m .from)) (m .to) hp (l .to-peg)
 
 -- A legal move takes the smallest disc of its peg, past smaller ones that are all on the third peg.
 unfoldable pub legal-step : (p : List ℕ) (m : Move) → WellFormed p → Legal p m → Step (length p) (peg p) (peg (moved p m))

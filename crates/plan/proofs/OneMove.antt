@@ -11,7 +11,8 @@ use Rattle.board.proofs.Formed.{formed-pegs}
 use Rattle.board.proofs.Top.{length-moved}
 use Rattle.plan.proofs.Step.{step-back}
 use Rattle.plan.proofs.Distance.{dist, step-dist}
-use Rattle.plan.proofs.Moves.{formed-moved, legal-step}
+use Rattle.board.proofs.Leads.{formed-moved}
+use Rattle.plan.proofs.Moves.{legal-step}
 use Rattle.plan.proofs.Optimal.{fewest-dist}
 
 module _ (p q : List ℕ) (m : Move) (same : length p ≡ length q) (hp : WellFormed p) (hq : WellFormed q) (l : Legal p m) where

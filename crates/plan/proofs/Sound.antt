@@ -8,11 +8,11 @@ use lib.Pow.{pow-mono}
 use Rattle.board.specs.Fewest.{fewest}
 use Rattle.board.specs.Move.{Move, Legal, moved}
 use Rattle.board.specs.Task.{limit, start, goal}
+use Rattle.board.proofs.Leads.{formed-moved}
 use Rattle.board.proofs.Tasks.{SoundTask, SoundPosition}
 use Rattle.board.proofs.Top.{length-moved}
 use Rattle.plan.specs.Inner.Sound.{Gatherable, Ends}
 use Rattle.plan.specs.Plan.{planOf, shortest}
-use Rattle.plan.proofs.Moves.{formed-moved}
 use Rattle.plan.proofs.Optimal.{fewest-shortest, shortest-bound}
 
 -- All discs of an accepted position can be gathered on any peg.

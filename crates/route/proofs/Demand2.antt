@@ -9,16 +9,17 @@ use Rattle.board.specs.Move.{Leads}
 use Rattle.board.specs.Position.{WellFormed}
 use Rattle.board.specs.Reply.{pass}
 use Rattle.board.specs.Task.{discs, start, goal, taskCheck}
+use Rattle.board.proofs.Leads.{leads-one}
 use Rattle.board.proofs.Tasks.{SoundTask, task-accepted, faultless-accepted}
 use Rattle.plan.proofs.Calls.{plan-accepts}
 use Rattle.route.specs.Answer.{lengthOf, countOf, taskRoute, locatedAt}
 use Rattle.route.specs.Demand2.{firstMoves, Moves, Places, Runs, Reached, Locates, Demand2}
 use Rattle.route.specs.Route.{moveAt, after}
 use Rattle.route.proofs.Calls.Answers.{route-length, move-accepts, move-disc, place-leads, place-size, place-accepts, place-answered, run-accepts, run-answered, run-reads, run-stays, locate-accepts, place-located}
-use Rattle.route.proofs.Calls.Locating.{leads-one, OnLowest, located-exactly, located-sum}
+use Rattle.route.proofs.Calls.Locating.{OnLowest, located-exactly, located-sum}
 use Rattle.route.proofs.Calls.Opened.{Routed}
 use Rattle.route.proofs.Shortest.Routes.{route-leads}
-use Rattle.route.proofs.Shortest.Ways.{plan-ways}
+use Rattle.route.proofs.Shortest.Ways.{plan-ways, plan-numbered}
 
 module _ (t : List ℕ) (accepted : taskCheck t ≡ pass) where
   sound : SoundTask t
@@ -107,6 +108,7 @@ demand-2 t none =
     record {
       plan = plan-accepts t none;
       ways = plan-ways (start t) (goal t) (size t accepted) (s .start-formed) (s .goal-formed);
+      numbered = plan-numbered (start t) (goal t);
       leads = λ r known. route-leads (start t) (goal t) (size t accepted) (s .start-formed) (s .goal-formed) r known .leads;
       long = λ r known. route-length t r (routed t accepted r known);
       moves = moves t accepted;

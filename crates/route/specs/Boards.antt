@@ -15,38 +15,38 @@ use Rattle.route.specs.Route.{plain}
 use Rattle.route.specs.declared.answer.DiscMove.{DiscMove}
 
 -- A call of Gather, Plan, Move or Locate.
-pub data Call : Type 0 where
-  gathers : (position : List ℕ) (peg : ℕ) → Call
-  plans : (start goal : List ℕ) → Call
-  moves : (start goal : List ℕ) (route index : ℕ) → Call
-  locates : (start goal position : List ℕ) → Call
+pub data BoardCall : Type 0 where
+  gathers : (position : List ℕ) (peg : ℕ) → BoardCall
+  plans : (start goal : List ℕ) → BoardCall
+  moves : (start goal : List ℕ) (route index : ℕ) → BoardCall
+  locates : (start goal position : List ℕ) → BoardCall
 
 -- What document 01 says of it: a refusal's number; a length; a way with its lengths, the fewest and how many routes; a move; a place.
-pub data Says : Type 0 where
-  refuses : (number : ℕ) → Says
-  stacks : (moves : ℕ) → Says
-  plan : (way : Way) (shortest routes : ℕ) → Says
-  move : Move → Says
-  place : Where → Says
+pub data BoardSays : Type 0 where
+  refuses : (number : ℕ) → BoardSays
+  stacks : (moves : ℕ) → BoardSays
+  plan : (way : Way) (shortest routes : ℕ) → BoardSays
+  move : Move → BoardSays
+  place : Where → BoardSays
 
-abbrev saysStack : Reply ℕ → Says
+abbrev saysStack : Reply ℕ → BoardSays
 saysStack (refused k) = refuses k
 saysStack (answer n) = stacks n
 
-abbrev saysPlan : Reply Plan → Says
+abbrev saysPlan : Reply Plan → BoardSays
 saysPlan (refused k) = refuses k
 saysPlan (answer p) = plan (p .way) (shortest p) (routes p)
 
-abbrev saysMove : Reply DiscMove → Says
+abbrev saysMove : Reply DiscMove → BoardSays
 saysMove (refused k) = refuses k
 saysMove (answer m) = move (plain m)
 
-abbrev saysPlace : Reply Where → Says
+abbrev saysPlace : Reply Where → BoardSays
 saysPlace (refused k) = refuses k
 saysPlace (answer w) = place w
 
 -- What the rules reply.
-abbrev pub replyTo : Call → Says
+abbrev pub replyTo : BoardCall → BoardSays
 replyTo (gathers p j) = saysStack (gatherAnswer p j)
 replyTo (plans s t) = saysPlan (planAnswer (s ++ t))
 replyTo (moves s t r i) = saysMove (moveAnswer (s ++ t) r i)
@@ -54,10 +54,10 @@ replyTo (locates s t q) = saysPlace (locateAnswer (s ++ t) q)
 
 -- A call, and what document 01 says of it.
 pub record Board : Type 0 where
-  pub call : Call
-  pub says : Says
+  pub call : BoardCall
+  pub says : BoardSays
 
-abbrev board : Call → Says → Board
+abbrev board : BoardCall → BoardSays → Board
 board c r = record { call = c; says = r }
 
 -- The direct and the detour length.

@@ -1,7 +1,7 @@
 -- Demand 2: lengths, routes and counts of shortest routes are Hinz's, from a task to each move and position of a route, and from a position
 -- back to its index. All of it is said of what the calls answer.
 use Prim.Native.Nat.{ℕ, suc, _+_, _*_, _-_, _/_, _≤_, _<_, min}
-use mathlib.Core.List.{List, _++_, map}
+use mathlib.Core.List.{List, [], _++_, map}
 use mathlib.Core.Logic.{_↔_}
 use mathlib.Core.Path.{_≡_}
 use lib.ListN.{length, take, drop}
@@ -13,6 +13,8 @@ use Rattle.board.specs.Task.{discs, start, goal}
 use Rattle.plan.specs.Answer.{planAnswer}
 use Rattle.plan.specs.Plan.{planOf, HasLengths}
 use Rattle.plan.specs.declared.answer.Lengths.{Lengths}
+use Rattle.plan.specs.declared.answer.Way.{Way}
+use Rattle.plan.specs.declared.answer.Way.the-variants.{Still, Direct, Detour, Tie}
 use Rattle.route.specs.Answer.{lengthOf, countOf, taskRoute, moveAnswer, placeAnswer, placeWrites, runAnswer, runWrites, Where, on, locateAnswer}
 use Rattle.route.specs.Ours.{readMoves}
 use Rattle.route.specs.Route.{plain, directRoute, detourRoute, moveAt}
@@ -35,6 +37,13 @@ pub record Ways (s g : List ℕ) (l : Lengths) : Type 0 where
   pub direct-long : length (directOf s g) ≡ l .direct
   pub detour-leads : Leads s (map plain (detourOf s g)) g
   pub detour-long : length (detourOf s g) ≡ l .detour
+
+-- The number of each: a tie's route 0 is direct, its route 1 the detour; any other plan has route 0 alone, a still one's of no moves.
+abbrev pub Numbered : Way → (ℕ → List DiscMove) → List DiscMove → List DiscMove → Type 0
+Numbered Still route direct detour = route 0 ≡ []
+Numbered (Direct l) route direct detour = route 0 ≡ direct
+Numbered (Detour l) route direct detour = route 0 ≡ detour
+Numbered (Tie l) route direct detour = (route 0 ≡ direct) × (route 1 ≡ detour)
 
 -- Move answers entry i of the route, with the disc that it moves: the smallest on its from-peg where the moves before it lead.
 pub record Moves (t : List ℕ) (r i : ℕ) : Type 0 where
@@ -77,6 +86,7 @@ pub record Demand2 (t : List ℕ) : Type 0 where
   -- Plan answers the plan of the rules: its lengths, the lesser, and the count of shortest routes. Its lengths are those of its two ways.
   pub plan : planAnswer t ≡ answer (planOf (start t) (goal t))
   pub ways : (l : Lengths) → HasLengths (planOf (start t) (goal t) .way) l → Ways (start t) (goal t) l
+  pub numbered : Numbered (planOf (start t) (goal t) .way) (taskRoute t) (directOf (start t) (goal t)) (detourOf (start t) (goal t))
   -- Each of its routes leads from start to goal in as many moves.
   pub leads : (r : ℕ) → r < countOf t → Leads (start t) (map plain (taskRoute t r)) (goal t)
   pub long : (r : ℕ) → r < countOf t → length (taskRoute t r) ≡ lengthOf t

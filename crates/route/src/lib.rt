@@ -5,7 +5,8 @@ mod gathering;
 mod locating;
 mod moves;
 pub mod opening;
-pub mod placing;
+pub mod pegs;
+mod placing;
 mod stage;
 
 pub use answer::DiscMove;

@@ -27,7 +27,7 @@ fn locate_between(start: &[u8], goal: &[u8], p: Plan, position: &[u8]) -> Locate
         return Located::Off;
     }
     let n = start.len();
-    let pegs = crate::placing::route_pegs(start, goal, p, 0, there);
+    let pegs = crate::pegs::route_pegs(start, goal, p, 0, there);
     if board::same_position(position, &pegs[..n]) {
         Located::On {
             index: there,

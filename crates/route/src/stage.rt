@@ -8,7 +8,7 @@ ghost use Rattle.board.specs.Position.{peg};
 ghost use Rattle.board.specs.Task.{limit};
 ghost use Rattle.plan.specs.Inner.Sound.{Ends, Gatherable};
 ghost use Rattle.route.specs.Inner.Along.{along};
-ghost use Rattle.route.specs.Inner.Stage.{CourseFits, StageFits, firstOf, stageMove, stagePeg};
+ghost use Rattle.route.specs.Inner.Stage.{CourseFits, StageFits, firstMoveOf, stageMove, stagePeg};
 use crate::answer::DiscMove;
 use crate::course::Course;
 use crate::course::Stage;
@@ -18,7 +18,7 @@ use board::LIMIT;
 // The first move with so many moves of a gathering left.
 fn move_along(position: &[u8], k: usize, target: u8, left: u64) -> DiscMove
     requires { ⌜ Gatherable (now position) k target ⌝ }
-    ensures { λ r. ⌜ r ≡ firstOf (along (peg (now (position .entry))) k target left) k target ⌝ }
+    ensures { λ r. ⌜ r ≡ firstMoveOf (along (peg (now (position .entry))) k target left) k target ⌝ }
 {
     let pegs = gathering::pegs_along(position, k, target, left);
     gathering::first_move(&pegs[..k], k, target)

@@ -20,7 +20,8 @@ use Rattle.plan.specs.Inner.Three.{Three}
 use Rattle.plan.proofs.Three.{three, three-third, three-turn, compare-pegs, each-peg}
 use Rattle.plan.proofs.Gathering.{Pegs, Tower, gather-shift, gathered-tower}
 use Rattle.plan.proofs.Step.{Step, put, put-same, put-other, step-largest}
-use Rattle.plan.proofs.Moves.{formed-moved, stepMove, step-top, step-legal, step-moved}
+use Rattle.board.proofs.Leads.{formed-moved}
+use Rattle.plan.proofs.Moves.{stepMove, step-top, step-legal, step-moved}
 use Rattle.route.specs.Route.{plain, spreading}
 use Rattle.route.specs.declared.answer.DiscMove.{DiscMove}
 use Rattle.route.proofs.Gatherings.Gathering.{gathering-cong, gathering-done, gathering-first, stepCarry}

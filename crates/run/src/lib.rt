@@ -15,7 +15,7 @@ ghost use Rattle.route.specs.Route.{routeOf};
 use board::Refusal;
 use plan::Plan;
 use plan::Planned;
-use route::Ran;
+pub use route::Ran;
 use route::opening::open_route;
 
 // Run: writes moves of a shortest route from an index on as letter pairs, as many as remain or fit, and answers how many. Refuses with

@@ -94,7 +94,7 @@ pub fn start_at(start: &[u8], goal: &[u8], p: Plan, route: u64, index: u64) -> S
 {
     let n = start.len();
     let course = Course::of(start, goal, p, route);
-    let pegs = route::placing::route_pegs(start, goal, p, route, index);
+    let pegs = route::pegs::route_pegs(start, goal, p, route, index);
     let leg = start_leg(course, course.stage(index), &pegs[..n], goal);
     stepper_at(&pegs[..n], leg)
 }

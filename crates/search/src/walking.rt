@@ -8,7 +8,7 @@ use crate::tally::MANY;
 use crate::tally::plus;
 use board::Verdict;
 use route::Moving;
-use route::Ran;
+use run::Ran;
 
 // Whether Place writes a position as the one at an index of a route, and nothing after it.
 pub fn is_placed(task: &[u8], route: u64, index: u64, n: usize, position: usize) -> bool {

@@ -16,11 +16,11 @@ use Rattle.board.specs.Reply.{refused, answer, _>>_, _>>=_, Check, pass}
 use Rattle.board.specs.Task.{discs, start, goal}
 use Rattle.board.proofs.Arrays.{padded-take, padded-holds, padded-moved, held-padded}
 use Rattle.board.proofs.Formed.{formed-append}
+use Rattle.board.proofs.Leads.{formed-moved}
 use Rattle.board.proofs.Legality.{legal-accepted}
 use Rattle.board.proofs.Replies.{check-answered}
 use Rattle.board.proofs.Tasks.{SoundTask, sound-task, joined-task}
 use Rattle.board.proofs.Top.{length-moved}
-use Rattle.plan.proofs.Moves.{formed-moved}
 use Rattle.plan.proofs.OneMove.{moved-further, moved-nearer}
 use Rattle.session.specs.Answer.{opened, playCheck, moveMark, playAnswer, playedRecord, recordOr, playLeaves, reportAnswer}
 use Rattle.session.specs.Counts.{playLimit, Account}

@@ -77,12 +77,12 @@ pub begin-refused : (t : List ℕ) {k : ℕ} → beginAnswer t ≡ refused k →
 begin-refused t e = rw e
 
 -- What a play that is marked finds: a sound record that is not full, and a legal move.
-pub record Accepted (s : Session) (m : Move) : Type 0 where
+pub record PlayAccepted (s : Session) (m : Move) : Type 0 where
   pub sounds : Sound s
   pub more : s .counts .made ≢ playLimit
   pub legal : Legal (currentOf s) m
 
-pub play-passed : (s : Session) (m : Move) → playCheck s m ≡ pass → Accepted s m
+pub play-passed : (s : Session) (m : Move) → playCheck s m ≡ pass → PlayAccepted s m
 unfolding playCheck
 play-passed s m h =
     let (sounds, rest) = check-answered (not (sound s)) 10 _ h in
@@ -101,12 +101,12 @@ play-accepts s m sounds more legal =
     rw (record-sound s sounds, ne-eqb (s .counts .made) playLimit more, legal-passes (currentOf s) m legal)
 
 -- Its mark, and the record after it.
-pub record Marked (s : Session) (m : Move) (k : Mark) : Type 0 where
-  pub accepted : Accepted s m
+pub record PlayAnswered (s : Session) (m : Move) (k : Mark) : Type 0 where
+  pub accepted : PlayAccepted s m
   pub mark : moveMark s m ≡ k
   pub leaves : playLeaves s m ≡ playedRecord s m k
 
-pub play-answered : (s : Session) (m : Move) {k : Mark} → playAnswer s m ≡ answer k → Marked s m k
+pub play-answered : (s : Session) (m : Move) {k : Mark} → playAnswer s m ≡ answer k → PlayAnswered s m k
 unfolding playAnswer playLeaves
 play-answered s m {k} e =
     let (passed, same) = then-answered (playCheck s m) _ e in

@@ -1,7 +1,7 @@
 -- Over any list of calls: the session agrees with the tally, and its plays lead to where it stands and account for its counts.
 use Prim.Native.Nat.{ℕ, _+_}
 use mathlib.Core.List.{List, [], _∷_, _++_, map}
-use mathlib.Core.Path.{_≡_, _∙_, refl, sym, ap₂, subst}
+use mathlib.Core.Path.{_≡_, _∙_, refl, sym, ap, ap₂, subst}
 use native.Mathlib.Omega.{arith}
 use lib.ListN.{length}
 use Rattle.board.specs.Fewest.{fewest}
@@ -15,7 +15,7 @@ use Rattle.session.specs.Answer.{opened, beginAnswer, reportAnswer}
 use Rattle.session.specs.Counts.{counted, figuresOf}
 use Rattle.session.specs.Demand3.{Says, Accounted}
 use Rattle.session.specs.Record.{currentOf}
-use Rattle.session.specs.Sessions.{recordReply, recordNext, recordReplies, recordAfter, Play, withPlay, acceptedPlays, countMarks}
+use Rattle.session.specs.Sessions.{recordReply, recordNext, recordReplies, recordAfter, replyAt, Play, withPlay, acceptedPlays, countMarks}
 use Rattle.session.specs.Tally.{Call, play, report, marked, reports, Tally, fresh, tallyCheck, tallyMark, playedTally, tallyOr, tallied, tallyReply, tallyReplies, tallyAfter}
 use Rattle.session.specs.declared.counting.Counts.{Counts}
 use Rattle.session.specs.declared.counting.Mark.{Mark}
@@ -85,6 +85,13 @@ unfolding recordAfter
 after-one s [] c = refl
 after-one s (d ∷ cs) c = after-one (recordNext s d) cs c
 
+-- The reply after some calls is that of the record which they leave.
+replies-at : (s : Session) (before : List Call) (c : Call) (after : List Call)
+    → replyAt (recordReplies s (before ++ (c ∷ after))) (length before) ≡ recordReply (recordAfter s before) c
+unfolding recordReplies recordAfter
+replies-at s [] c after = refl
+replies-at s (d ∷ ds) c after = replies-at (recordNext s d) ds c after
+
 module _ (t : List ℕ) (task : SoundTask t) where
   -- Where the record agrees with a tally, a play that is marked has the mark that says what becomes of the fewest.
   reply-says : (y : Tally) (s : Session) → Agrees t y s → (m : Move) (k : Mark) → recordReply s (play m) ≡ answer (marked k)
@@ -123,11 +130,12 @@ module _ (t : List ℕ) (task : SoundTask t) where
       let rises = counts-rise t (fresh t) cs in
       record {
         leads = rw (replies, current) (plays-lead t (fresh t) cs);
-        counts = rw (replies, a .held) (omega arith);
+        counts = rw (replies, a .held) (omega (arith, a .account .sum));
         marks = λ before m after k split e.
             rw (after-one (opened t) before (play m))
             (reply-says (tallyAfter t (fresh t) before) (recordAfter (opened t) before)
-            (agrees-after t task (fresh t) (opened t) (agrees-fresh t task) before) m k e);
+            (agrees-after t task (fresh t) (opened t) (agrees-fresh t task) before) m k
+            (sym (replies-at (opened t) before (play m) after) ∙ ap (λ (ds : List Call). replyAt (recordReplies (opened t) ds) (length before)) (sym split) ∙ e));
         balance = rw (current, a .held) (a .account .marks);
         reports = record { figures = _; answered = report-after cs; counts = refl; remaining = refl; excess = refl };
         replies = replies;

@@ -16,7 +16,7 @@ use Rattle.route.specs.Answer.{runAnswer, runWrites}
 use Rattle.route.specs.Ours.{ourRoute, readMoves}
 use Rattle.session.specs.Answer.{beginAnswer, reportAnswer}
 use Rattle.session.specs.Record.{currentOf}
-use Rattle.session.specs.Sessions.{recordReply, recordReplies, recordAfter, Play, acceptedPlays, countMarks, heldBy}
+use Rattle.session.specs.Sessions.{recordReplies, recordAfter, replyAt, Play, acceptedPlays, countMarks, heldBy}
 use Rattle.session.specs.Tally.{Call, play, marked, fresh, tallyReplies, tallyAfter}
 use Rattle.session.specs.declared.counting.Counts.{Counts}
 use Rattle.session.specs.declared.counting.Figures.{Figures}
@@ -24,9 +24,10 @@ use Rattle.session.specs.declared.counting.Mark.{Mark}
 use Rattle.session.specs.declared.counting.Mark.the-variants.{Toward, Level, Away}
 use Rattle.session.specs.declared.record.Session.{Session}
 
--- The counts are those of the plays: how many there are, and how many bore each mark.
+-- The counts are those of the plays: how many there are, and how many bore each mark, which is every play.
 pub record CountsOf (c : Counts) (ps : List Play) : Type 0 where
   pub made : c .made ≡ length ps
+  pub sum : c .made ≡ c .toward + c .level + c .away
   pub toward : c .toward ≡ countMarks Toward ps
   pub level : c .level ≡ countMarks Level ps
   pub away : c .away ≡ countMarks Away ps
@@ -52,7 +53,7 @@ pub record Accounted (t : List ℕ) (s : Session) (cs : List Call) : Type 0 wher
   pub counts : CountsOf (recordAfter s cs .counts) (acceptedPlays cs (recordReplies s cs))
   -- Each play in the list that is marked: its mark says what became of the fewest.
   pub marks : (before : List Call) (m : Move) (after : List Call) (k : Mark) → cs ≡ before ++ (play m ∷ after)
-      → recordReply (recordAfter s before) (play m) ≡ answer (marked k)
+      → replyAt (recordReplies s cs) (length before) ≡ answer (marked k)
       → Says k (fewest (currentOf (recordAfter s before)) (goal t)) (fewest (currentOf (recordAfter s (before ++ (play m ∷ [])))) (goal t))
   -- toward plus the fewest now is away plus the fewest at the start.
   pub balance : recordAfter s cs .counts .toward + fewest (currentOf (recordAfter s cs)) (goal t)

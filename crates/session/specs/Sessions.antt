@@ -1,6 +1,7 @@
 -- A list of calls on a record: the replies, the record at the end, and the plays that were accepted.
 use Prim.Native.Nat.{ℕ, _+_}
 use mathlib.Core.List.{List, [], _∷_}
+use lib.ListN.{getD}
 use Rattle.board.specs.Held.{padded}
 use Rattle.board.specs.Move.{Move}
 use Rattle.board.specs.Reply.{Reply, refused, answer, _>>=_}
@@ -28,6 +29,10 @@ recordReplies s (c ∷ cs) = recordReply s c ∷ recordReplies (recordNext s c) 
 unfoldable pub recordAfter : Session → List Call → Session
 recordAfter s [] = s
 recordAfter s (c ∷ cs) = recordAfter (recordNext s c) cs
+
+-- The reply to the call at place i of the list.
+abbrev pub replyAt : List (Reply Said) → ℕ → Reply Said
+replyAt rs i = getD rs i (refused 0)
 
 -- An accepted play: its move, and the mark that it bore.
 pub record Play : Type 0 where

@@ -97,8 +97,3 @@ pub answer-within : (b page : List ℕ) → length (answerText b) ≤ length (an
 unfolding answeredPage
 answer-within b page =
     omega (arith, length-append (answerText b) (drop (length (answerText b)) page))
-
--- It is what is read at the start of the page.
-pub answer-read : (b page : List ℕ) → take (length (answerText b)) (answeredPage b page) ≡ answerText b
-unfolding answeredPage
-answer-read b page = take-append-seam (answerText b) (drop (length (answerText b)) page)

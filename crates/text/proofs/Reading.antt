@@ -1,12 +1,15 @@
 -- What the byte at i does to each reading of the bytes from i on: one step of each loop of the reader.
 use Prim.Native.Nat.{ℕ, suc, _-_, _≤_, _<_}
-use mathlib.Core.Path.{_≡_}
+use mathlib.Core.Path.{_≡_, _∙_, refl}
 use mathlib.Core.Bool.{true, false}
 use mathlib.Core.List.{List, [], _∷_}
 use mathlib.Core.Logic.{_≢_}
 use borrow.Author.Tests.{eq-eqb, ne-eqb}
 use lib.ListN.{length, getD, drop, drop-of-length-le}
 use lib.Seq.{drop-cons}
+use Rattle.bytes.specs.Bytes.{indexOf}
+use Rattle.board.specs.Move.{top}
+use Rattle.board.proofs.Top.{top-index}
 use Rattle.text.specs.Input.{newline}
 use Rattle.text.specs.Reading.{isDigit, follow, followAll, lines, digits, lineEnd}
 use Rattle.text.specs.declared.read.Next.{Next}
@@ -54,17 +57,11 @@ pub digits-none : (b : List ℕ) (i : ℕ) → length b ≤ i → digits (drop i
 unfolding digits
 digits-none b i h = rw (drop-of-length-le b h)
 
--- The first line ends there.
-pub end-here : (b : List ℕ) (i : ℕ) → i < length b → getD b i 0 ≡ newline → lineEnd (drop i b) ≡ 0
-unfolding lineEnd
-end-here b i h e = rw (drop-cons b i 0 h, eq-eqb _ _ e)
+-- The first line ends where byte 10 is first found.
+end-top : (b : List ℕ) → top b newline ≡ lineEnd b
+unfolding top lineEnd
+end-top [] = refl
+end-top (c ∷ b) = rw (end-top b)
 
--- It ends further on.
-pub end-past : (b : List ℕ) (i : ℕ) → i < length b → getD b i 0 ≢ newline → lineEnd (drop i b) ≡ suc (lineEnd (drop (suc i) b))
-unfolding lineEnd
-end-past b i h n = rw (drop-cons b i 0 h, ne-eqb _ _ n)
-
--- It ends with the bytes.
-pub end-none : (b : List ℕ) (i : ℕ) → length b ≤ i → lineEnd (drop i b) ≡ 0
-unfolding lineEnd
-end-none b i h = rw (drop-of-length-le b h)
+pub end-index : (b : List ℕ) → indexOf newline b ≡ lineEnd b
+end-index b = top-index b newline ∙ end-top b

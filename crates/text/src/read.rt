@@ -107,14 +107,7 @@ pub fn is_text(input: &[u8]) -> bool
 fn line_end(input: &[u8]) -> usize
     ensures { λ r. ⌜ r ≡ lineEnd (now (input .entry)) ⌝ }
 {
-    let mut i = 0;
-    while i < input.len() {
-        if input[i] == NEWLINE {
-            return i;
-        }
-        i += 1;
-    }
-    i
+    bytes::scan::find(input, 0, input.len(), NEWLINE)
 }
 
 // Puts the digits among some bytes into a task from a place on, and answers the place after them.
@@ -136,13 +129,13 @@ fn put_digits(bytes: &[u8], task: &mut [u8; 512], at: usize) -> usize
 }
 
 // How many digits the first line has, and how many both have.
-pub struct Counts {
+pub struct DigitCounts {
     pub start: usize,
     pub all: usize,
 }
 
 // Puts the digits of both lines into a task: the goal's begin straight after the start's.
-pub fn read_task(input: &[u8], task: &mut [u8; 512]) -> Counts
+pub fn read_task(input: &[u8], task: &mut [u8; 512]) -> DigitCounts
     requires { ⌜ length (now input) ≤ most ⌝ }
     ensures { λ r. ⌜ r .start ≡ length (startIn (now (input .entry))) ⌝ }
     ensures { λ r. ⌜ Puts (now (task .entry)) 0 (startIn (now (input .entry)) ++ goalIn (now (input .entry))) (now (task .exit)) (r .all) ⌝ }
@@ -150,5 +143,5 @@ pub fn read_task(input: &[u8], task: &mut [u8; 512]) -> Counts
     let end = line_end(input);
     let start = put_digits(&input[..end], task, 0);
     let all = put_digits(&input[end..], task, start);
-    Counts { start, all }
+    DigitCounts { start, all }
 }

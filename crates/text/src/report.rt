@@ -17,7 +17,7 @@ use crate::put::put_line;
 use plan::Lengths;
 use plan::Plan;
 use plan::Way;
-use route::Ran;
+use run::Ran;
 
 // The most moves of a route that is printed.
 const MOST_MOVES: u64 = 1000;

@@ -1,7 +1,7 @@
 // Lines of many discs: the limit on discs, and that on bytes.
 ghost use Prim.Native.Nat.{_+_, _*_, _<_, _≤_};
 ghost use lib.ListN.{length};
-use crate::show::show;
+use crate::answers::answer_to;
 
 // Puts a line of one digit, so many times and at least once, and answers the place after it.
 fn put_line(input: &mut [u8], at: usize, discs: usize, digit: u8) -> usize
@@ -30,7 +30,7 @@ fn show_lines(name: &[u8], discs: usize, digit: u8, more: usize)
     let mut input = [b'\n'; 600];
     let half = put_line(&mut input, 0, discs, digit);
     let end = put_line(&mut input, half, discs, 2) + more;
-    show(name, &input[..end]);
+    answer_to(name, &input[..end]);
 }
 
 // The answer to a line of 169 discs and one of none: 511 bytes.
@@ -40,7 +40,7 @@ fn show_unequal() {
     input[end] = b'[';
     input[end + 1] = b']';
     input[end + 2] = b'\n';
-    show(b"169 discs and none", &input[..end + 3]);
+    answer_to(b"169 discs and none", &input[..end + 3]);
 }
 
 pub fn all() {

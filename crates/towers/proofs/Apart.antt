@@ -7,7 +7,7 @@ use native.Mathlib.Omega.{arith}
 use Rattle.board.specs.Fault.{Fault, First, taskFaults}
 use Rattle.board.specs.Refusal.{number}
 use Rattle.board.specs.Reply.{Reply, refused, answer}
-use Rattle.board.specs.Task.{limit, start, goal}
+use Rattle.board.specs.Task.{limit}
 use Rattle.board.specs.declared.refusal.Refusal.{Refusal}
 use Rattle.board.specs.declared.refusal.Refusal.the-variants as refusal
 use Rattle.board.proofs.Replies.{refused-answer, made-refused, made-answered}
@@ -18,12 +18,11 @@ use Rattle.plan.specs.declared.answer.Way.{Way}
 use Rattle.plan.specs.declared.answer.Way.the-variants.{Still, Direct, Detour, Tie}
 use Rattle.plan.proofs.Calls.{plan-obeys, plan-answered, gather-obeys, gather-answered}
 use Rattle.plan.proofs.Fits.{gather-fits}
-use Rattle.plan.proofs.Sound.{task-ends, position-gatherable}
+use Rattle.plan.proofs.Sound.{task-ends, ends-fit, position-gatherable}
 use Rattle.route.specs.Answer.{runAnswer}
 use Rattle.route.specs.Faults.{runFaults}
 use Rattle.route.proofs.Calls.Answers.{run-answered}
 use Rattle.route.proofs.Calls.Obeys.{run-obeys}
-use Rattle.route.proofs.Courses.Found.{shortest-fits}
 use Rattle.towers.specs.Words.{word, shortestReply, shortestWord, routesReply, routesWord, gatherWord, runWord, lastNumber, Tells}
 
 -- The refusals have the numbers 1 to 12.
@@ -77,7 +76,7 @@ shortest-tells t =
     word-tells (shortestReply t) (λ k e. plan-numbers t k (made-refused (planAnswer t) shortest e))
     (λ n e. let (p, answered, same) = made-answered (planAnswer t) shortest e in
     let o = plan-answered t answered in
-    rw (← same, ← o .plan) (shortest-fits (start t) (goal t) (task-ends (o .sound))))
+    rw (← same, ← o .plan) (ends-fit (task-ends (o .sound))))
 
 -- A way has one shortest route or two.
 way-few : (w : Way) → routesWay w ≤ 2
@@ -103,4 +102,4 @@ pub run-tells : (t : List ℕ) (r i : ℕ) (out : List ℕ) → Tells (runWord t
 run-tells t r i out =
     word-tells (runAnswer t r i out) (λ k e. first-numbered (runFaults t r i out) k (omega arith) (run-obeys t r i out .refuses k .0 e))
     (λ n e. let ran = run-answered t r i out e in
-    omega (arith, ran .count, shortest-fits (start t) (goal t) (task-ends (ran .routed .sound))))
+    omega (arith, ran .count, ends-fit (task-ends (ran .routed .sound))))

@@ -8,16 +8,16 @@ ghost use Rattle.towers.specs.Words.{word, gatherWord, shortestWord, rou
 use board::Refusal;
 use plan::Gathered;
 use plan::Planned;
-use route::Ran;
+use run::Ran;
 
 // The largest number of 64 bits.
-const MOST: u64 = 18446744073709551615;
+const LARGEST: u64 = 18446744073709551615;
 
 // The number that a refusal comes as.
 fn refusal_word(why: Refusal) -> u64
     ensures { λ r. ⌜ r ≡ word (refused (number why)) ⌝ }
 {
-    MOST - why.number() + 1
+    LARGEST - why.number() + 1
 }
 
 // Plan's shortest: the fewest moves of a task.

@@ -11,7 +11,7 @@ use Rattle.plan.specs.Gather.{gather}
 use Rattle.plan.proofs.Gathering.{Pegs}
 use Rattle.route.specs.Inner.Along.{along}
 use Rattle.route.specs.Route.{turned, gathering, backwards, spreading, moveAt}
-use Rattle.route.specs.Inner.Stage.{firstOf}
+use Rattle.route.specs.Inner.Stage.{firstMoveOf}
 use Rattle.route.specs.declared.answer.DiscMove.{DiscMove}
 use Rattle.route.proofs.Along.Along.{along-above, along-pegs}
 use Rattle.route.proofs.Gatherings.Backwards.{backwards-length}
@@ -25,7 +25,7 @@ entry-drop ms i = sym (getD-drop i ms 0 _ ∙ ap (λ (n : ℕ). moveAt ms n) (ad
 
 -- The move at an index of a gathering is the first with the others left.
 pub gathering-entry : (p : ℕ → ℕ) → Pegs p → (k j i : ℕ) → j < 3 → i ≤ gather p k j
-    → moveAt (gathering p k j) i ≡ firstOf (along p k j (gather p k j - i)) k j
+    → moveAt (gathering p k j) i ≡ firstMoveOf (along p k j (gather p k j - i)) k j
 gathering-entry p hp k j i hj b =
     let index : gather p k j - (gather p k j - i) ≡ i = omega arith in
     entry-drop (gathering p k j) i
@@ -52,14 +52,14 @@ backwards-entry (m ∷ ms) i l =
 
 -- The move at an index of a spreading is a gathering's, turned.
 pub spreading-entry : (q : ℕ → ℕ) → Pegs q → (k j i : ℕ) → j < 3 → i < gather q k j
-    → moveAt (spreading q k j) i ≡ turned (firstOf (along q k j (i + 1)) k j)
+    → moveAt (spreading q k j) i ≡ turned (firstMoveOf (along q k j (i + 1)) k j)
 unfolding spreading
 spreading-entry q hq k j i hj b =
     let size = gathering-length q hq k j hj in
     let index : gather q k j - (length (gathering q k j) - suc i) ≡ i + 1 = omega arith in
     backwards-entry (gathering q k j) i (omega arith)
     ∙ ap turned (gathering-entry q hq k j (length (gathering q k j) - suc i) hj (omega arith)
-    ∙ ap (λ (r : ℕ). firstOf (along q k j r) k j) index)
+    ∙ ap (λ (r : ℕ). firstMoveOf (along q k j r) k j) index)
 
 -- The first moves backwards are the last ones.
 backwards-take : (ms : List DiscMove) (n : ℕ) → n ≤ length ms → backwards (drop n ms) ≡ take (length ms - n) (backwards ms)

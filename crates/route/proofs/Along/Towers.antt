@@ -8,7 +8,7 @@ use Rattle.board.specs.Task.{limit}
 use Rattle.board.proofs.Formed.{formed-replicate}
 use Rattle.plan.specs.Inner.Sound.{Gatherable}
 use Rattle.route.specs.Inner.Along.{along}
-use Rattle.route.specs.Inner.Stage.{firstOf}
+use Rattle.route.specs.Inner.Stage.{firstMoveOf}
 use Rattle.route.proofs.Along.Along.{along-cong}
 use Rattle.route.proofs.Gatherings.Gathering.{gathering-cong}
 
@@ -30,5 +30,5 @@ module _ (b k j r : ℕ) (h : k ≤ limit) where
       (getD-replicate limit d b 0 (omega arith))
 
   -- So the first move along its gathering is that of a tower.
-  pub tower-first : firstOf (along (peg (replicate limit b)) k j r) k j ≡ firstOf (along (λ _. b) k j r) k j
+  pub tower-first : firstMoveOf (along (peg (replicate limit b)) k j r) k j ≡ firstMoveOf (along (λ _. b) k j r) k j
   tower-first = rw (gathering-cong k (along (peg (replicate limit b)) k j r) (along (λ _. b) k j r) j tower-along)

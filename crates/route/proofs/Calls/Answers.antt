@@ -13,13 +13,14 @@ use Rattle.board.specs.Move.{Leads, top}
 use Rattle.board.specs.Position.{wellFormed, WellFormed}
 use Rattle.board.specs.Reply.{answer, pass}
 use Rattle.board.specs.Task.{limit, discs, start, goal, taskCheck}
+use Rattle.board.proofs.Leads.{leads-formed, leads-size}
 use Rattle.board.proofs.Replies.{then-answered, check-answered, check-passed}
 use Rattle.board.proofs.Tasks.{SoundTask, task-accepted}
 use Rattle.route.specs.Answer.{lengthOf, taskRoute, routeCheck, moveAnswer, placeAnswer, placeWrites, runAnswer, runWrites, letters, Where, on, off, locatedAt, locateAnswer}
 use Rattle.route.specs.Ours.{readMoves}
 use Rattle.route.specs.Route.{plain, moveAt, after}
 use Rattle.route.specs.declared.answer.DiscMove.{DiscMove}
-use Rattle.route.proofs.Calls.Locating.{through, plain-take, leads-size, leads-formed, located-back}
+use Rattle.route.proofs.Calls.Locating.{through, plain-take, located-back}
 use Rattle.route.proofs.Calls.Opened.{Routed, route-passed, route-passes}
 use Rattle.route.proofs.Calls.Letters.{PegMoves, leads-pegs, pegs-take, pegs-drop, letters-read, letters-length}
 use Rattle.route.proofs.Shortest.Routes.{route-walk, route-leads}
@@ -39,12 +40,12 @@ pub off-on : {i r : ℕ} → answer off ≡ answer (on i r) → ⊥
 off-on e = let z : _≡_ {A = ℕ} 0 1 = cc in omega arith
 
 -- An answered Move: the route is there, the index below its length, and the move is the route's.
-pub record Moved (t : List ℕ) (r i : ℕ) (m : DiscMove) : Type 0 where
+pub record MoveAnswered (t : List ℕ) (r i : ℕ) (m : DiscMove) : Type 0 where
   pub routed : Routed t r
   pub index : i < lengthOf t
   pub move : moveAt (taskRoute t r) i ≡ m
 
-pub move-answered : (t : List ℕ) (r i : ℕ) {m : DiscMove} → moveAnswer t r i ≡ answer m → Moved t r i m
+pub move-answered : (t : List ℕ) (r i : ℕ) {m : DiscMove} → moveAnswer t r i ≡ answer m → MoveAnswered t r i m
 unfolding moveAnswer
 move-answered t r i {m} e =
     let (passed, rest) = then-answered (routeCheck t r) _ e in
@@ -56,7 +57,7 @@ move-answered t r i {m} e =
     }
 
 -- An accepted Place: the index is up to the length, and the buffer, which keeps its size, has room for the n discs, at most `limit`.
-pub record Placed (t : List ℕ) (r i : ℕ) (out : List ℕ) : Type 0 where
+pub record PlaceAnswered (t : List ℕ) (r i : ℕ) (out : List ℕ) : Type 0 where
   pub routed : Routed t r
   pub within : discs t ≤ limit
   pub index : i ≤ lengthOf t
@@ -65,7 +66,7 @@ pub record Placed (t : List ℕ) (r i : ℕ) (out : List ℕ) : Type 0 where
   pub sized : length (placeWrites t r i out) ≡ length out
 
 -- An answered Run: the first index is up to the length, and the moves that it counts fit the buffer, which keeps its size.
-pub record Ran (t : List ℕ) (r i : ℕ) (out : List ℕ) (k : ℕ) : Type 0 where
+pub record RunAnswered (t : List ℕ) (r i : ℕ) (out : List ℕ) (k : ℕ) : Type 0 where
   pub routed : Routed t r
   pub index : i ≤ lengthOf t
   pub count : k ≡ min (lengthOf t - i) (length out / 2)
@@ -74,13 +75,13 @@ pub record Ran (t : List ℕ) (r i : ℕ) (out : List ℕ) (k : ℕ) : Type 0 wh
   pub sized : length (runWrites t r i out) ≡ length out
 
 -- An answered Locate: the position is one of n discs on pegs.
-pub record Found (t q : List ℕ) (w : Where) : Type 0 where
+pub record LocateAnswered (t q : List ℕ) (w : Where) : Type 0 where
   pub sound : SoundTask t
   pub sized : length q ≡ discs t
   pub formed : WellFormed q
   pub place : locatedAt (start t) (goal t) q ≡ w
 
-pub locate-answered : (t q : List ℕ) {w : Where} → locateAnswer t q ≡ answer w → Found t q w
+pub locate-answered : (t q : List ℕ) {w : Where} → locateAnswer t q ≡ answer w → LocateAnswered t q w
 unfolding locateAnswer
 locate-answered t q {w} e =
     let (task, rest) = then-answered (taskCheck t) _ e in
@@ -180,7 +181,7 @@ joined-size : (a out : List ℕ) (n : ℕ) → length a ≡ n → n ≤ length o
 joined-size a out n e room = omega (arith, length-append a (drop n out), length-drop n out)
 
 -- What is accepted and written, of a Place.
-pub place-answered : (t : List ℕ) (r i : ℕ) (out : List ℕ) → placeAnswer t r i out ≡ pass → Placed t r i out
+pub place-answered : (t : List ℕ) (r i : ℕ) (out : List ℕ) → placeAnswer t r i out ≡ pass → PlaceAnswered t r i out
 unfolding placeAnswer placeWrites
 place-answered t r i out e =
     let (passed, rest) = then-answered (routeCheck t r) _ e in
@@ -199,7 +200,7 @@ place-answered t r i out e =
     }
 
 -- Of a Run.
-pub run-answered : (t : List ℕ) (r i : ℕ) (out : List ℕ) {k : ℕ} → runAnswer t r i out ≡ answer k → Ran t r i out k
+pub run-answered : (t : List ℕ) (r i : ℕ) (out : List ℕ) {k : ℕ} → runAnswer t r i out ≡ answer k → RunAnswered t r i out k
 unfolding runAnswer runWrites
 run-answered t r i out {k} e =
     let (passed, rest) = then-answered (routeCheck t r) _ e in
@@ -232,7 +233,7 @@ place-located t r i out e =
     (l, low, rw read (locate-accepts t q (routed .accepted) (place-size t r routed i) (place-formed t r routed i) ∙ ap answer found))
 
 -- What Run writes, read as moves, is the route from its first index on, as many as it returns.
-pub run-reads : (t : List ℕ) (r i : ℕ) (out : List ℕ) {k : ℕ} → Ran t r i out k
+pub run-reads : (t : List ℕ) (r i : ℕ) (out : List ℕ) {k : ℕ} → RunAnswered t r i out k
     → readMoves (take (2 * k) (runWrites t r i out)) ≡ take k (drop i (map plain (taskRoute t r)))
 run-reads t r i out {k} ran =
     let part = take k (drop i (taskRoute t r)) in
@@ -244,7 +245,7 @@ run-reads t r i out {k} ran =
     ∙ ap (take k) (plain-drop i (taskRoute t r)))
 
 -- And its other bytes are as they stood.
-pub run-stays : (t : List ℕ) (r i : ℕ) (out : List ℕ) {k : ℕ} → Ran t r i out k → drop (2 * k) (runWrites t r i out) ≡ drop (2 * k) out
+pub run-stays : (t : List ℕ) (r i : ℕ) (out : List ℕ) {k : ℕ} → RunAnswered t r i out k → drop (2 * k) (runWrites t r i out) ≡ drop (2 * k) out
 run-stays t r i out {k} ran =
     let part = take k (drop i (taskRoute t r)) in
     let size : length (letters part) ≡ 2 * k = rw (ran .count) (part-length t r (ran .routed) i out) in

@@ -7,15 +7,14 @@ use native.Mathlib.Omega.{arith}
 use lib.Dec.{eqb}
 use lib.ListN.{length, take}
 use Rattle.board.specs.Position.{WellFormed}
-use Rattle.board.specs.Fewest.{fewest, same}
+use Rattle.board.specs.Fewest.{same}
 use Rattle.plan.specs.Plan.{planOf, shortest, routes, routesWay}
 use Rattle.plan.specs.Inner.Sound.{Ends}
 use Rattle.plan.specs.declared.answer.Way.{Way}
 use Rattle.plan.specs.declared.answer.Way.the-variants.{Still, Direct, Detour, Tie}
-use Rattle.plan.proofs.Optimal.{fewest-shortest}
+use Rattle.plan.proofs.Sound.{ends-fewest, ends-fit}
 use Rattle.route.specs.Answer.{Where, on, off, onRoute, lowestRoute, locatedAt}
 use Rattle.route.specs.Route.{routeOf, after}
-use Rattle.route.proofs.Courses.Found.{shortest-fits}
 
 -- Every way has a route.
 way-some : (w : Way) → 0 < routesWay w
@@ -27,10 +26,6 @@ way-some (Tie l) = omega arith
 -- So has every plan.
 pub routes-some : (p q : List ℕ) → 0 < routes (planOf p q)
 routes-some p q = way-some (planOf p q .way)
-
--- The fewest moves between two ends are their plan's.
-ends-fewest : {s t : List ℕ} → Ends s t → fewest s t ≡ shortest (planOf s t)
-ends-fewest e = fewest-shortest _ _ (e .same) (e .start-formed) (e .goal-formed)
 
 -- The answer by the fewest moves to a position, from it, and in all.
 abbrev pub locatedBy : List ℕ → List ℕ → List ℕ → ℕ → ℕ → ℕ → Where
@@ -48,7 +43,7 @@ module _ (s g q : List ℕ) (e : Ends s g) (size : length q ≡ length s) (forme
 
   -- The moves by way of it can be added.
   pub by-way-fits : shortest (planOf s q) + shortest (planOf q g) < 2 ^ 64
-  by-way-fits = omega (arith, shortest-fits s q ends-there, shortest-fits q g ends-back)
+  by-way-fits = omega (arith, ends-fit ends-there, ends-fit ends-back)
 
   -- Three plans locate it.
   pub located-plans : locatedAt s g q ≡ locatedBy s g q (shortest (planOf s q)) (shortest (planOf q g)) (shortest (planOf s g))

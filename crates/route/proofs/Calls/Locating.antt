@@ -10,12 +10,11 @@ use borrow.Author.Tests.{eq-eqb, ne-eqb}
 use lib.ListN.{length, take, drop, length-append, length-map, length-take, length-drop}
 use lib.Seq.{ext-getD, take-at}
 use Rattle.board.specs.Position.{WellFormed}
-use Rattle.board.specs.Move.{Move, Leads, done, next}
+use Rattle.board.specs.Move.{Move, Leads}
 use Rattle.board.specs.Fewest.{fewest, same}
+use Rattle.board.proofs.Leads.{leads-append, leads-one, leads-formed, leads-size}
 use Rattle.board.proofs.Search.{same-sound, same-refl, same-apart}
-use Rattle.board.proofs.Top.{length-moved}
 use Rattle.plan.specs.Plan.{planOf, shortest, routes}
-use Rattle.plan.proofs.Moves.{formed-moved}
 use Rattle.plan.proofs.Optimal.{fewest-is, fewest-shortest}
 use Rattle.route.specs.Answer.{on, off, onRoute, lowestRoute, locatedAt}
 use Rattle.route.specs.Route.{plain, after, routeOf}
@@ -24,25 +23,6 @@ use Rattle.route.proofs.Shortest.Distinct.{routes-count}
 use Rattle.route.proofs.Walks.Leading.{walk-leads}
 use Rattle.route.proofs.Along.Middle.{walk-cut}
 use Rattle.route.proofs.Shortest.Routes.{route-walk, route-only}
-
--- One list after another.
-leads-append : {p q r : List ℕ} {ms ns : List Move} → Leads p ms q → Leads q ns r → Leads p (ms ++ ns) r
-leads-append done x = x
-leads-append (next l w) x = next l (leads-append w x)
-
--- A list leads to one position.
-pub leads-one : {p q r : List ℕ} {ms : List Move} → Leads p ms q → Leads p ms r → q ≡ r
-leads-one done done = refl
-leads-one (next l w) (next k x) = leads-one w x
-
--- Legal moves keep a position well formed and its size.
-pub leads-formed : {p q : List ℕ} {ms : List Move} → WellFormed p → Leads p ms q → WellFormed q
-leads-formed hp done = hp
-leads-formed hp (next {p = p} {m = m} l w) = leads-formed (formed-moved p m hp l) w
-
-pub leads-size : {p q : List ℕ} {ms : List Move} → Leads p ms q → length q ≡ length p
-leads-size done = refl
-leads-size (next {p = p} {m = m} l w) = leads-size w ∙ length-moved p m
 
 -- A list of moves without its discs is as long.
 plain-length : (ms : List DiscMove) → length (map plain ms) ≡ length ms

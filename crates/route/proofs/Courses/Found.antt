@@ -9,16 +9,13 @@ use native.Mathlib.Omega.{arith}
 use borrow.Author.Tests.{le-leb, lt-leb}
 use lib.Dec.{leb}
 use lib.ListN.{length, take, getD}
-use lib.Pow.{pow-mono}
 use lib.Seq.{ext-getD, length-take-le, getD-take}
 use Rattle.board.specs.Peg.{third}
 use Rattle.board.specs.Position.{peg}
-use Rattle.board.specs.Task.{limit}
 use Rattle.board.proofs.Formed.{formed-pegs}
 use Rattle.plan.specs.Plan.{largest, lengthsOf, wayOf, planBy, planOf, shortest}
 use Rattle.plan.specs.Inner.Sound.{Ends}
 use Rattle.plan.specs.Tower.{towerLength}
-use Rattle.plan.proofs.Optimal.{shortest-bound}
 use Rattle.plan.proofs.Three.{three}
 use Rattle.route.specs.Route.{routeOf, moveAt, after}
 use Rattle.route.specs.Inner.Stage.{isDetour, courseBy, courseOf, afterFirst, stageOf, stageMove, stagePeg, StageFits}
@@ -120,11 +117,6 @@ still-none s t e =
       | none m home ↦ rw (plan-still s t m)
       | some k m b away home c ↦ absurd (omega (arith, plan-disc s t k m))
     ]
-
--- A length is far below what 64 bits hold.
-pub shortest-fits : (s t : List ℕ) → Ends s t → shortest (planOf s t) < 2 ^ limit
-shortest-fits s t e =
-    omega (arith, shortest-bound s t (e .same) (e .start-formed) (e .goal-formed), pow-mono (e .within))
 
 -- The moves of a spreading done are no more than the index.
 pub stage-fits : (c : Course) (i : ℕ) → i + 1 < 2 ^ 64 → StageFits (stageOf c i)

@@ -18,7 +18,7 @@ use Rattle.plan.proofs.Three.{three-swap}
 use Rattle.plan.proofs.Gathering.{Pegs, gather-shift, gather-cong}
 use Rattle.route.specs.Inner.Along.{along}
 use Rattle.route.specs.Route.{carry, gathering, spreading, moveAt, directRoute, detourRoute}
-use Rattle.route.specs.Inner.Stage.{firstOf, afterFirst, stageOf, stageMove, stagePeg}
+use Rattle.route.specs.Inner.Stage.{firstMoveOf, afterFirst, stageOf, stageMove, stagePeg}
 use Rattle.route.specs.declared.answer.DiscMove.{DiscMove}
 use Rattle.route.specs.declared.course.Course.{Course}
 use Rattle.route.specs.declared.course.Stage.the-variants.{Gathering, Shifting}
@@ -110,7 +110,7 @@ module _ (p q : ℕ → ℕ) (hp : Pegs p) (hq : Pegs q) (k z : ℕ) (h : Three 
         | yes b ↦ rw (le-leb i t (omega arith), ne-eqb (t - i) 0 (omega arith))
             (entry-before list mid tail t size i b
             ∙ gathering-entry (λ _. q k) (λ _. hq k) k (p k) i (hp k) (omega (arith, shift-length))
-            ∙ ap (λ (n : ℕ). firstOf (along (λ _. q k) k (p k) (n - i)) k (p k)) shift-length)
+            ∙ ap (λ (n : ℕ). firstMoveOf (along (λ _. q k) k (p k) (n - i)) k (p k)) shift-length)
         | no n ↦ elim (ℕ-discrete i t) [
           | yes e ↦ rw (le-leb i t (omega arith), eq-eqb (t - i) 0 (omega arith)) (entry-here list mid tail t size i e)
           | no f ↦ rw (lt-leb i t (omega arith))

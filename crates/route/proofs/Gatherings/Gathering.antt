@@ -77,7 +77,7 @@ abbrev pub stepCarry : {k : ℕ} {p q : ℕ → ℕ} → Step k p q → DiscMove
 stepCarry {p = p} {q = q} s = carry (s .disc) (p (s .disc)) (q (s .disc))
 
 -- The first move of a gathering lowers it, and the rest is the gathering of what the move leaves.
-pub record First (p : ℕ → ℕ) (k j : ℕ) : Type 0 where
+pub record GatheringFirst (p : ℕ → ℕ) (k j : ℕ) : Type 0 where
   pub next : ℕ → ℕ
   pub pegs : Pegs next
   pub step : Step k p next
@@ -85,7 +85,7 @@ pub record First (p : ℕ → ℕ) (k j : ℕ) : Type 0 where
   pub rest : gathering p k j ≡ stepCarry step ∷ gathering next k j
 
 -- The largest disc is on its target: the first move is that of the smaller ones.
-first-home : (p : ℕ → ℕ) (k j : ℕ) → p k ≡ j → First p k j → First p (suc k) j
+first-home : (p : ℕ → ℕ) (k j : ℕ) → p k ≡ j → GatheringFirst p k j → GatheringFirst p (suc k) j
 first-home p k j e f =
     let e′ : f .next k ≡ j = sym (f .step .others k (omega arith)) ∙ e in
     record {
@@ -97,7 +97,7 @@ first-home p k j e f =
     }
 
 -- It is not, and smaller ones have to go to the third peg: theirs is the first.
-first-below : (p : ℕ → ℕ) (k j z : ℕ) → Three (p k) j z → First p k z → First p (suc k) j
+first-below : (p : ℕ → ℕ) (k j z : ℕ) → Three (p k) j z → GatheringFirst p k z → GatheringFirst p (suc k) j
 first-below p k j z h f =
     let e : f .next k ≡ p k = sym (f .step .others k (omega arith)) in
     record {
@@ -109,7 +109,7 @@ first-below p k j z h f =
     }
 
 -- It is not, and the smaller ones are a tower on the third peg: it goes first.
-first-cross : (p : ℕ → ℕ) → Pegs p → (k j z : ℕ) → Three (p k) j z → Tower p k z → First p (suc k) j
+first-cross : (p : ℕ → ℕ) → Pegs p → (k j z : ℕ) → Three (p k) j z → Tower p k z → GatheringFirst p (suc k) j
 first-cross p hp k j z h t =
     let q = put p k j in
     let below : Tower q k z = λ d l. put-other p k j d (omega arith) ∙ t d l in
@@ -134,7 +134,7 @@ first-cross p hp k j z h t =
     }
 
 -- Where something is left to gather, the gathering has a first move.
-pub gathering-first : (p : ℕ → ℕ) → Pegs p → (k j : ℕ) → j < 3 → 0 < gather p k j → First p k j
+pub gathering-first : (p : ℕ → ℕ) → Pegs p → (k j : ℕ) → j < 3 → 0 < gather p k j → GatheringFirst p k j
 gathering-first p hp zero j hj l = absurd (unfold gather in omega arith)
 gathering-first p hp (suc k) j hj l =
     elim (compare-pegs (p k) j (hp k) hj) [

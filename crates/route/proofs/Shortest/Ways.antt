@@ -1,4 +1,4 @@
--- Both ways of the largest disc that moves lead from start to goal, in as many moves as the plan says of them.
+-- Both ways of the largest disc that moves lead from start to goal, in as many moves as the plan says of them; and their numbers.
 use Prim.Native.Nat.{ℕ, suc, _-_, _<_}
 use mathlib.Core.List.{List, map}
 use mathlib.Core.Logic.{_≢_}
@@ -13,10 +13,10 @@ use Rattle.board.proofs.Formed.{formed-pegs}
 use Rattle.plan.specs.Plan.{largest, lengthsOf, wayOf, planBy, planOf, HasLengths}
 use Rattle.plan.specs.declared.answer.Lengths.{Lengths}
 use Rattle.plan.specs.declared.answer.Way.{Way}
-use Rattle.plan.specs.declared.answer.Way.the-variants.{Still}
+use Rattle.plan.specs.declared.answer.Way.the-variants.{Still, Direct, Detour, Tie}
 use Rattle.plan.proofs.Three.{three}
-use Rattle.route.specs.Demand2.{Ways}
-use Rattle.route.specs.Route.{plain, after, directRoute, detourRoute}
+use Rattle.route.specs.Demand2.{directOf, detourOf, Ways, Numbered}
+use Rattle.route.specs.Route.{plain, after, directRoute, detourRoute, routeBy, routeOf}
 use Rattle.route.specs.declared.answer.DiscMove.{DiscMove}
 use Rattle.route.proofs.Walks.Walk.{Walk, walk-grow}
 use Rattle.route.proofs.Walks.Leading.{walk-leads}
@@ -72,3 +72,14 @@ module _ (s g : List ℕ) (size : length s ≡ length g) (hs : WellFormed s) (hg
         | none m home ↦ absurd (still-none _ l (plan-still s g m) has)
         | some k m within away home c ↦ moving-ways k m within away home l (way-lengths _ l (rw (plan-moving s g k m) at has))
       ]
+
+-- The routes are numbered as the way of the plan says.
+pub plan-numbered : (s g : List ℕ) → Numbered (planOf s g .way) (routeOf s g) (directOf s g) (detourOf s g)
+unfolding routeBy routeOf
+plan-numbered s g = by (planOf s g .way) (planOf s g .largest - 1)
+  where
+    by : (w : Way) (k : ℕ) → Numbered w (routeBy w (peg s) (peg g) k) (directRoute (peg s) (peg g) k) (detourRoute (peg s) (peg g) k)
+    by Still k = refl
+    by (Direct l) k = refl
+    by (Detour l) k = refl
+    by (Tie l) k = (refl, refl)

@@ -9,7 +9,8 @@ use Rattle.board.specs.Move.{Move, Legal, Leads, done, next, top, moved}
 use Rattle.board.proofs.Top.{length-moved, top-on, moved-disc}
 use Rattle.plan.specs.Inner.Three.{Three}
 use Rattle.plan.proofs.Step.{Step}
-use Rattle.plan.proofs.Moves.{formed-moved, legal-step, stepMove, step-top, step-legal, step-moved}
+use Rattle.board.proofs.Leads.{formed-moved}
+use Rattle.plan.proofs.Moves.{legal-step, stepMove, step-top, step-legal, step-moved}
 use Rattle.route.specs.Route.{plain, moveAt, after}
 use Rattle.route.specs.declared.answer.DiscMove.{DiscMove}
 use Rattle.route.proofs.Gatherings.Gathering.{stepCarry}
@@ -34,14 +35,14 @@ step-from {v = v} p en eu s =
     }
 
 -- The first move of a walk from the pegs of a position is legal, names its disc, and leaves the pegs that the walk goes on from.
-record Stepped (p : List ℕ) (m : DiscMove) (v : ℕ → ℕ) : Type 0 where
+record StepMade (p : List ℕ) (m : DiscMove) (v : ℕ → ℕ) : Type 0 where
   legal : Legal p (plain m)
   disc : m .disc ≡ suc (top p (m .from))
   pegs : (d : ℕ) → peg (moved p (plain m)) d ≡ v d
 
-stepped : {n : ℕ} {u v : ℕ → ℕ} {m : DiscMove} (p : List ℕ) → length p ≡ n → ((d : ℕ) → peg p d ≡ u d)
-    → (s : Step n u v) → m ≡ stepCarry s → Stepped p m v
-stepped {v = v} {m = m} p en eu s e =
+step-made : {n : ℕ} {u v : ℕ → ℕ} {m : DiscMove} (p : List ℕ) → length p ≡ n → ((d : ℕ) → peg p d ≡ u d)
+    → (s : Step n u v) → m ≡ stepCarry s → StepMade p m v
+step-made {v = v} {m = m} p en eu s e =
     let s′ : Step (length p) (peg p) v = step-from p en eu s in
     let from : m .from ≡ peg p (s .disc) = ap (λ (n : DiscMove). n .from) e ∙ sym (eu (s .disc)) in
     let at : plain m ≡ stepMove s′ = ap plain e ∙ ap (λ (i : ℕ). record { from = i; to = v (s .disc) }) (sym (eu (s .disc))) in
@@ -57,7 +58,7 @@ pub walk-leads : {n : ℕ} {u v : ℕ → ℕ} {ms : List DiscMove}
 unfolding after
 walk-leads stay p en eu = record { leads = done; pegs = eu; size = refl }
 walk-leads (go {m = m} s e w) p en eu =
-    let f = stepped p en eu s e in
+    let f = step-made p en eu s e in
     let l = walk-leads w (moved p (plain m)) (length-moved p (plain m) ∙ en) (f .pegs) in
     record { leads = next (f .legal) (l .leads); pegs = l .pegs; size = l .size ∙ length-moved p (plain m) }
 
@@ -67,9 +68,9 @@ pub walk-disc : {n : ℕ} {u v : ℕ → ℕ} {ms : List DiscMove}
     → moveAt ms i .disc ≡ suc (top (after p (take i ms)) (moveAt ms i .from))
 unfolding after
 walk-disc stay p en eu i l = absurd (omega arith)
-walk-disc (go s e w) p en eu zero l = stepped p en eu s e .disc
+walk-disc (go s e w) p en eu zero l = step-made p en eu s e .disc
 walk-disc (go {m = m} s e w) p en eu (suc i) l =
-    walk-disc w (moved p (plain m)) (length-moved p (plain m) ∙ en) (stepped p en eu s e .pegs) i (omega arith)
+    walk-disc w (moved p (plain m)) (length-moved p (plain m) ∙ en) (step-made p en eu s e .pegs) i (omega arith)
 
 -- The step of a legal move makes that move.
 legal-carry : (p : List ℕ) (m : Move) (hp : WellFormed p) (l : Legal p m) → plain (stepCarry (legal-step p m hp l)) ≡ m

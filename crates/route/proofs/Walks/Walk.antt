@@ -65,12 +65,12 @@ walk-dist {n} hu (go {u = u} {v = v} {w = w} s e x) =
     omega (arith, step-dist n v u w hv (walk-pegs hv x) (step-back s), walk-dist hv x)
 
 -- A gathering is a walk to a tower on its target, by as many moves as are left.
-pub record Gathers (n : ℕ) (u : ℕ → ℕ) (k j : ℕ) : Type 0 where
+pub record GatheringWalk (n : ℕ) (u : ℕ → ℕ) (k j : ℕ) : Type 0 where
   pub end : ℕ → ℕ
   pub walk : Walk n u (gathering u k j) end
   pub tower : Tower end k j
 
-gathers-by : (c : ℕ) (u : ℕ → ℕ) → Pegs u → (k j : ℕ) → j < 3 → gather u k j ≡ c → Gathers k u k j
+gathers-by : (c : ℕ) (u : ℕ → ℕ) → Pegs u → (k j : ℕ) → j < 3 → gather u k j ≡ c → GatheringWalk k u k j
 gathers-by zero u hu k j hj e =
     let t = gathered-tower u hu k j hj e in record { end = u; walk = rw (gathering-done u k j t) stay; tower = t }
 gathers-by (suc c) u hu k j hj e =
@@ -78,5 +78,5 @@ gathers-by (suc c) u hu k j hj e =
     let g = gathers-by c (f .next) (f .pegs) k j hj (omega (arith, f .less)) in
     record { end = g .end; walk = rw (f .rest) (go (f .step) refl (g .walk)); tower = g .tower }
 
-pub gathers : (u : ℕ → ℕ) → Pegs u → (k j : ℕ) → j < 3 → Gathers k u k j
+pub gathers : (u : ℕ → ℕ) → Pegs u → (k j : ℕ) → j < 3 → GatheringWalk k u k j
 gathers u hu k j hj = gathers-by (gather u k j) u hu k j hj refl

@@ -64,18 +64,18 @@ unfoldable pub stageOf : Course → ℕ → Stage
 stageOf c i = cond (leb i (c .first)) (Gathering (c .first - i)) (afterFirst c (i - c .first - 1))
 
 -- The next move at a stage.
-abbrev pub firstOf : (ℕ → ℕ) → ℕ → ℕ → DiscMove
-firstOf u k j = moveAt (gathering u k j) 0
+abbrev pub firstMoveOf : (ℕ → ℕ) → ℕ → ℕ → DiscMove
+firstMoveOf u k j = moveAt (gathering u k j) 0
 
 unfoldable pub stageMove : (ℕ → ℕ) → (ℕ → ℕ) → Course → Stage → DiscMove
 stageMove p q c (Gathering r) =
     cond (eqb r 0) (carry (c .disc) (c .from) (firstStop c))
-    (firstOf (along p (c .disc) (firstPeg c) r) (c .disc) (firstPeg c))
+    (firstMoveOf (along p (c .disc) (firstPeg c) r) (c .disc) (firstPeg c))
 stageMove p q c (Shifting r) =
     cond (eqb r 0) (carry (c .disc) (c .free) (c .to))
-    (firstOf (along (λ _. c .to) (c .disc) (c .from) r) (c .disc) (c .from))
+    (firstMoveOf (along (λ _. c .to) (c .disc) (c .from) r) (c .disc) (c .from))
 stageMove p q c (Spreading i) =
-    turned (firstOf (along q (c .disc) (lastPeg c) (i + 1)) (c .disc) (lastPeg c))
+    turned (firstMoveOf (along q (c .disc) (lastPeg c) (i + 1)) (c .disc) (lastPeg c))
 
 -- The peg of each disc at a stage.
 unfoldable pub stagePeg : (ℕ → ℕ) → (ℕ → ℕ) → Course → Stage → ℕ → ℕ

@@ -2,7 +2,7 @@
 use mathlib.Core.Path.{_∙_, sym, ap}
 use borrow.Author.Needs.{needs}
 use Rattle.plan.specs.Answer.{planReply}
-use Rattle.plan.proofs.Calls.{Opened, plan-answered, plan-refused}
+use Rattle.plan.proofs.Calls.{PlanAnswered, plan-answered, plan-refused}
 use Rattle.text.specs.Inner.Page.{taskText}
 use Rattle.text.proofs.put_task.Statement.{statement}
 use Rattle.text.proofs.put_task.Tie as tie
@@ -20,7 +20,7 @@ enum-known-p : tie.Need-enum-known-p
 enum-known-p c = search needs
 
 -- Where there is a plan p, the task is accepted and p is its plan.
-opened : (c : tie.After-p) → Opened (c .before .before .before .before .args .task .now) (c .p .given .0 .0)
+opened : (c : tie.After-p) → PlanAnswered (c .before .before .before .before .args .task .now) (c .p .given .0 .0)
 opened c = plan-answered _ (sym (c .before .before .plan .ensures) ∙ ap planReply (c .p .given .1))
 
 put-report-requires : tie.Need-put-report-requires

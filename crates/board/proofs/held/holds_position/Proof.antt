@@ -9,7 +9,7 @@ use Rattle.board.proofs.Arrays.{part-to-limit}
 use Rattle.board.proofs.held.holds_position.Statement.{statement}
 use Rattle.board.proofs.held.holds_position.Tie as tie
 
--- The array has 60 bytes.
+-- The array has `limit` bytes.
 size : (c : tie.Start) → length (c .args .t2) ≡ limit
 size c = search needs
 

@@ -5,7 +5,8 @@ use native.Mathlib.Omega.{arith}
 use Rattle.plan.specs.Plan.{planOf, shortest}
 use Rattle.route.specs.Inner.Stage.{CourseFits}
 use Rattle.route.proofs.Courses.Plan.{course-fits}
-use Rattle.route.proofs.Courses.Found.{route-entry, moves-some, shortest-fits, stage-fits}
+use Rattle.plan.proofs.Sound.{ends-fit}
+use Rattle.route.proofs.Courses.Found.{route-entry, moves-some, stage-fits}
 use Rattle.route.proofs.moves.route_move.Statement.{statement}
 use Rattle.route.proofs.moves.route_move.Tie as tie
 use lib.ListN.{length}
@@ -34,7 +35,7 @@ stage-move-requires c κs =
       start .pre .0,
       (
         fits (c .before),
-        rw (c .stage .ensures) (stage-fits _ _ (omega (arith, below start, shortest-fits _ _ (start .pre .0)))),
+        rw (c .stage .ensures) (stage-fits _ _ (omega (arith, below start, ends-fit (start .pre .0)))),
       ),
     )
 

@@ -4,14 +4,14 @@ use mathlib.Core.Path.{_∙_, sym, ap}
 use borrow.Author.Needs.{needs}
 use borrow.Author.Tests.{lt-ltb, le-ltb}
 use Rattle.plan.specs.Answer.{planReply}
-use Rattle.plan.proofs.Calls.{Opened, plan-answered, plan-refused}
+use Rattle.plan.proofs.Calls.{PlanAnswered, plan-answered, plan-refused}
 use Rattle.route.specs.Answer.{routeCheck}
 use Rattle.route.specs.Inner.Open.{openAnswer}
 use Rattle.route.proofs.opening.open_route.Statement.{statement}
 use Rattle.route.proofs.opening.open_route.Tie as tie
 
 -- Where there is a plan p, the task is accepted and p is its plan.
-opened : (c : tie.After-p) → Opened (c .before .before .before .before .args .task .now) (c .p .given .0 .0)
+opened : (c : tie.After-p) → PlanAnswered (c .before .before .before .before .args .task .now) (c .p .given .0 .0)
 opened c = plan-answered _ (sym (c .before .before .plan .ensures) ∙ ap planReply (c .p .given .1))
 
 plan-requires : tie.Need-plan-requires

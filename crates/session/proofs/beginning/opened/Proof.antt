@@ -1,4 +1,4 @@
--- `session::beginning::opened` meets its contract: the halves of an accepted task have at most 60 bytes each. Assumes nothing.
+-- `session::beginning::opened` meets its contract: the halves of an accepted task have at most `limit` bytes each. Assumes nothing.
 use native.Mathlib.Omega.{arith}
 use borrow.Author.Needs.{needs}
 use lib.ListN.{length-take}

@@ -10,17 +10,17 @@ use Rattle.plan.proofs.Sound.{moved-ends}
 use Rattle.session.specs.Answer.{moveMark, playAnswer, playedRecord, playLeaves}
 use Rattle.session.specs.Record.{currentOf, PositionsHeld}
 use Rattle.session.proofs.Account.{account-counts}
-use Rattle.session.proofs.Calls.{Accepted, play-passed}
+use Rattle.session.proofs.Calls.{PlayAccepted, play-passed}
 use Rattle.session.proofs.Soundness.{Sized, current-ends, current-room, current-length}
 use Rattle.session.proofs.playing.accepted.Statement.{statement}
 use Rattle.session.proofs.playing.accepted.Tie as tie
 
--- The arrays of a record have 60 bytes.
+-- The arrays of a record have `limit` bytes.
 sized : (c : tie.Start) → Sized (c .args .s)
 sized c = search needs
 
 -- The record is sound, with plays to come, and the move is legal.
-playable : (c : tie.Start) → Accepted (c .args .s) (record { from = c .args .from; to = c .args .to })
+playable : (c : tie.Start) → PlayAccepted (c .args .s) (record { from = c .args .from; to = c .args .to })
 playable c = play-passed _ _ (c .pre)
 
 positions : (c : tie.Start) → PositionsHeld (c .args .s)

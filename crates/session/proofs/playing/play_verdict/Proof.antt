@@ -9,7 +9,7 @@ use Rattle.session.proofs.Soundness.{Sized, sound-record, current-room,
 use Rattle.session.proofs.playing.play_verdict.Statement.{statement}
 use Rattle.session.proofs.playing.play_verdict.Tie as tie
 
--- The arrays of a record have 60 bytes.
+-- The arrays of a record have `limit` bytes.
 sized : (c : tie.Start) → Sized (c .args .s)
 sized c = search needs
 

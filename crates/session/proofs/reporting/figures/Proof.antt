@@ -5,7 +5,7 @@ use Rattle.session.proofs.Soundness.{Sized, sound-record, start-ends, c
 use Rattle.session.proofs.reporting.figures.Statement.{statement}
 use Rattle.session.proofs.reporting.figures.Tie as tie
 
--- The arrays of a record have 60 bytes.
+-- The arrays of a record have `limit` bytes.
 sized : (c : tie.Start) → Sized (c .args .s)
 sized c = search needs
 

@@ -8,7 +8,7 @@ use Rattle.session.proofs.Soundness.{Sized, positions-held, start-ends,
 use Rattle.session.proofs.sound.marks_agree.Statement.{statement}
 use Rattle.session.proofs.sound.marks_agree.Tie as tie
 
--- The arrays of a record have 60 bytes.
+-- The arrays of a record have `limit` bytes.
 sized : (c : tie.Start) → Sized (c .args .s)
 sized c = search needs
 

@@ -24,13 +24,13 @@ add-end c = search needs
 array-share-prefix-input : tie.Need-array-share-prefix-input
 array-share-prefix-input c = search needs
 
-slice-aggregate-show : tie.Need-slice-aggregate-show
-slice-aggregate-show c =
+slice-aggregate-answer-to : tie.Need-slice-aggregate-answer-to
+slice-aggregate-answer-to c =
     let all = c .before .before .put-line2 .result + c .before .before .before .before .before .before .before .before .args .more in
     omega (arith, length-take all (c .before .before .put-line2 .last .0))
 
-show-requires : tie.Need-show-requires
-show-requires c κs = search needs
+answer-to-requires : tie.Need-answer-to-requires
+answer-to-requires c κs = search needs
 
 returns : tie.Need-returns
 returns c = search needs
@@ -45,6 +45,6 @@ show-lines-spec =
     put-line-requires-2
     add-end
     array-share-prefix-input
-    slice-aggregate-show
-    show-requires
+    slice-aggregate-answer-to
+    answer-to-requires
     returns)

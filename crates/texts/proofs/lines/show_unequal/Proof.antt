@@ -26,8 +26,8 @@ add-input-2 c = search needs
 array-write-input-3 : tie.Need-array-write-input-3
 array-write-input-3 c = search needs
 
-slice-aggregate-show : tie.Need-slice-aggregate-show
-slice-aggregate-show c = search needs
+slice-aggregate-answer-to : tie.Need-slice-aggregate-answer-to
+slice-aggregate-answer-to c = search needs
 
 add-input-3 : tie.Need-add-input-3
 add-input-3 c = search needs
@@ -35,11 +35,11 @@ add-input-3 c = search needs
 array-share-prefix-input : tie.Need-array-share-prefix-input
 array-share-prefix-input c = simp length-set (omega arith)
 
-slice-aggregate-show-2 : tie.Need-slice-aggregate-show-2
-slice-aggregate-show-2 c = simp (length-take, length-set) (omega arith)
+slice-aggregate-answer-to-2 : tie.Need-slice-aggregate-answer-to-2
+slice-aggregate-answer-to-2 c = simp (length-take, length-set) (omega arith)
 
-show-requires : tie.Need-show-requires
-show-requires c κs = search needs
+answer-to-requires : tie.Need-answer-to-requires
+answer-to-requires c κs = search needs
 
 returns : tie.Need-returns
 returns c = search needs
@@ -55,9 +55,9 @@ show-unequal-spec =
     array-write-input-2
     add-input-2
     array-write-input-3
-    slice-aggregate-show
+    slice-aggregate-answer-to
     add-input-3
     array-share-prefix-input
-    slice-aggregate-show-2
-    show-requires
+    slice-aggregate-answer-to-2
+    answer-to-requires
     returns)

@@ -1,4 +1,4 @@
--- `route::placing::route_pegs` meets its contract: the pegs are those of the stage of the index, or the start's where no disc moves.
+-- `route::pegs::route_pegs` meets its contract: the pegs are those of the stage of the index, or the start's where no disc moves.
 -- Assumes nothing.
 use Prim.Native.Nat.{_≤_, _<_}
 use mathlib.Core.Path.{_∙_}
@@ -10,8 +10,8 @@ use Rattle.plan.specs.Plan.{planOf, shortest}
 use Rattle.route.specs.Inner.Stage.{CourseFits}
 use Rattle.route.proofs.Courses.Plan.{course-fits}
 use Rattle.route.proofs.Courses.Found.{placed, placed-still}
-use Rattle.route.proofs.placing.route_pegs.Statement.{statement}
-use Rattle.route.proofs.placing.route_pegs.Tie as tie
+use Rattle.route.proofs.pegs.route_pegs.Statement.{statement}
+use Rattle.route.proofs.pegs.route_pegs.Tie as tie
 
 -- The index is at most the length of the plan of the two positions.
 within : (c : tie.Start) → c .args .index ≤ shortest (planOf (c .args .start .now) (c .args .goal .now))
