@@ -44,7 +44,8 @@ extern "C" {
  * Refuses with TOWER_ODD_LENGTH, TOWER_TOO_MANY_DISCS, TOWER_NOT_A_PEG, in this order: the task faults. */
 uint64_t tower_shortest(const uint8_t *task, size_t task_len);
 
-/* How many lists of moves do it in so many: 1 or 2. Where there are two, route 0 moves the largest moving disc once, route 1 twice.
+/* How many lists of moves do it in so many: 1 or 2. Where there are two, route 0 is the direct one, route 1 the
+ * detour, which takes the largest moving disc by way of the third peg.
  * Refuses with the task faults. */
 uint64_t tower_routes(const uint8_t *task, size_t task_len);
 
