@@ -13,6 +13,7 @@ use Rattle.board.specs.Held.{padded, allZero, holdsPosition, HoldsPositi
 use Rattle.board.specs.Move.{Move, Legal, top, moved}
 use Rattle.board.specs.Position.{wellFormed, WellFormed}
 use Rattle.board.specs.Task.{limit}
+use Rattle.board.proofs.Lists.{drop-replicate}
 use Rattle.board.proofs.Formed.{formed-append, formed-replicate, formed-pegs, pegs-formed}
 
 -- Zeros are all zero.
@@ -29,15 +30,9 @@ zero-zeros (b ∷ a) e =
     let both = and-eq-true-iff (eqb b 0) (allZero a) .0 e in
     cc (eqb-true b 0 (both .0), zero-zeros a (both .1))
 
--- What comes after the first n of so many zeros.
-zeros-drop : (n m : ℕ) → drop {A = ℕ} n (replicate m 0) ≡ replicate (m - n) 0
-zeros-drop zero m = let same : m - 0 ≡ m = omega arith in rw same
-zeros-drop (suc n) zero = let none : 0 - suc n ≡ 0 = omega arith in rw none
-zeros-drop (suc n) (suc m) = let less : suc m - suc n ≡ m - n = omega arith in rw less (zeros-drop n m)
-
 -- A position copied over the first of as many zeros as there can be discs is its array.
 pub copied-padded : (p : List ℕ) → take (length p) p ++ drop (length p) (replicate limit 0) ≡ padded p
-copied-padded p = rw (take-length, zeros-drop)
+copied-padded p = rw (take-length, drop-replicate)
 
 -- The used bytes of a position's array are the position.
 pub padded-take : (p : List ℕ) (n : ℕ) → length p ≡ n → take n (padded p) ≡ p

@@ -1,4 +1,5 @@
 -- Laws of the board's vocabulary, in the order of its definitions.
+pub mod Lists
 pub mod Pegs
 pub mod Formed
 pub mod Top

@@ -27,10 +27,15 @@ then-answered (answer u) r e = (refl, e)
 pub check-answered : {A : Type 0} {a : A} (fault : Bool) (k : ℕ) (r : Reply A) → (check fault k >> r) ≡ answer a → (fault ≡ false) × (r ≡ answer a)
 check-answered fault k r e = let (passed, rest) = then-answered (check fault k) r e in (check-passed fault k passed, rest)
 
--- Where a value would follow, a refusal is the check's.
-pub then-refused : {A : Type 0} {k : ℕ} (v : Check) (a : A) → (v >> answer a) ≡ refused k → v ≡ refused k
+-- Where a value would follow, a refusal is what came before.
+pub then-refused : {A B : Type 0} {k : ℕ} (v : Reply B) (a : A) → (v >> answer a) ≡ refused k → v ≡ refused k
 then-refused (refused j) a e = cc
 then-refused (answer u) a e = absurd (refused-answer (sym e))
+
+-- Of three in a row it makes no difference which two go together.
+pub then-assoc : {A B C : Type 0} (v : Reply A) (w : Reply B) (r : Reply C) → ((v >> w) >> r) ≡ (v >> (w >> r))
+then-assoc (refused k) w r = refl
+then-assoc (answer a) w r = refl
 
 -- What is made of a value is refused where the value is.
 pub made-refused : {A B : Type 0} {k : ℕ} (r : Reply A) (f : A → B) → (r >>= λ a. answer (f a)) ≡ refused k → r ≡ refused k

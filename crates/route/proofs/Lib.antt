@@ -10,8 +10,11 @@ pub mod Shortest
 pub mod Along
 -- A route met in the middle, by its course.
 pub mod Courses
+-- The part of the plan behind each move.
+pub mod Stretches
 -- What the calls answer.
 pub mod Calls
 pub mod Demand2
+pub mod Annotated
 -- The starred boards.
 pub mod Boards

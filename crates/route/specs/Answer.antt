@@ -10,6 +10,7 @@ use Rattle.board.specs.Refusal.{number}
 use Rattle.board.specs.Reply.{Reply, refused, answer, _>>_, _>>=_, Check, check, written}
 use Rattle.board.specs.Task.{discs, start, goal, taskCheck}
 use Rattle.plan.specs.Plan.{planOf, shortest, routes}
+use Rattle.route.specs.Part.{partsOf, partAt}
 use Rattle.route.specs.Route.{routeOf, moveAt, after}
 use Rattle.route.specs.declared.answer.DiscMove.{DiscMove}
 use Rattle.route.specs.declared.answer.Moving.{Moving}
@@ -18,6 +19,7 @@ use Rattle.route.specs.declared.answer.Ran.{Ran}
 use Rattle.route.specs.declared.answer.Ran.the-variants as ran
 use Rattle.route.specs.declared.answer.Located.{Located}
 use Rattle.route.specs.declared.answer.Located.the-variants as located
+use Rattle.route.specs.declared.part.Part.{Part}
 
 -- The length and the count of shortest routes of a task.
 abbrev pub lengthOf : List ℕ → ℕ
@@ -38,7 +40,7 @@ routeCheck t r = do
 
 -- What an answer of Move says: disc, from and to.
 abbrev pub moveReply : Moving → Reply DiscMove
-moveReply (moving.Move m) = answer m
+moveReply (moving.Move m a) = answer m
 moveReply (moving.Refused r) = refused (number r)
 
 -- Move: task faults; 4; 5, the index is not below the length.
@@ -47,6 +49,17 @@ moveAnswer t r i = do
   routeCheck t r
   check (not (ltb i (lengthOf t))) 5
   answer (moveAt (taskRoute t r) i)
+
+-- What an answer of Move says too: the part (02, CR 1).
+abbrev pub partReply : Moving → Reply Part
+partReply (moving.Move m a) = answer a
+partReply (moving.Refused r) = refused (number r)
+
+-- The part of the same move; refused as the move is.
+unfoldable pub partAnswer : List ℕ → ℕ → ℕ → Reply Part
+partAnswer t r i = do
+  moveAnswer t r i
+  answer (partAt (partsOf (start t) (goal t) r) i)
 
 -- Place: task faults; 4; 5, the index is above the length; 6, the buffer is below n bytes.
 unfoldable pub placeAnswer : List ℕ → ℕ → ℕ → List ℕ → Check

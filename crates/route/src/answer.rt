@@ -1,4 +1,5 @@
 // What Move, Place, Run and Locate answer.
+use crate::part::Part;
 use board::Refusal;
 
 // A move of a route: the disc, the peg it leaves and the peg it goes to.
@@ -8,13 +9,13 @@ pub struct DiscMove {
     pub to: u8,
 }
 
-// Move's answer.
+// Move's answer: the move, and the part of the plan behind it.
 pub enum Moving {
-    Move(DiscMove),
+    Move(DiscMove, Part),
     Refused(Refusal),
 }
 
-// Run's answer: how many moves were written.
+// The answer of Run and Parts: how many moves were written.
 pub enum Ran {
     Moves(usize),
     Refused(Refusal),

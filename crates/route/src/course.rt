@@ -4,7 +4,8 @@ ghost use Prim.Native.Nat.{_<_, _≤_};
 ghost use Rattle.board.specs.Task.{limit};
 ghost use Rattle.plan.specs.Plan.{planOf};
 ghost use Rattle.plan.specs.Inner.Sound.{Ends};
-ghost use Rattle.route.specs.Inner.Stage.{isDetour, firstPeg, firstStop, lastPeg, courseOf, afterFirst, stageOf};
+ghost use Rattle.route.specs.Inner.Stage.{isDetour, firstPeg, firstStop, lastPeg, courseOf, afterFirst, stageOf, stagePart};
+use crate::part::Part;
 use plan::Plan;
 use plan::Way;
 
@@ -23,6 +24,19 @@ pub enum Stage {
     Gathering(u64),
     Shifting(u64),
     Spreading(u64),
+}
+
+impl Stage {
+    // The part of the next move: a crossing where no move of the gathering or of the shift is left.
+    pub fn part(self) -> Part
+        ensures { λ r. ⌜ r ≡ stagePart self ⌝ }
+    {
+        match self {
+            Stage::Gathering(left) => if left == 0 { Part::Cross } else { Part::Gather },
+            Stage::Shifting(left) => if left == 0 { Part::Cross } else { Part::Shift },
+            Stage::Spreading(_) => Part::Spread,
+        }
+    }
 }
 
 // Whether a route of a way is a detour.

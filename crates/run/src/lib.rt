@@ -12,11 +12,11 @@ ghost use Rattle.plan.specs.Plan.{planOf, routes, shortest};
 ghost use Rattle.plan.specs.Inner.Sound.{Ends};
 ghost use Rattle.route.specs.Answer.{letters, runReply, runAnswer, runWrites};
 ghost use Rattle.route.specs.Route.{routeOf};
-use board::Refusal;
 use plan::Plan;
 use plan::Planned;
 pub use route::Ran;
-use route::opening::open_route;
+use route::count::lesser;
+use route::opening::open_list;
 
 // Run: writes moves of a shortest route from an index on as letter pairs, as many as remain or fit, and answers how many. Refuses with
 // the task faults, 4, 5 and 6, and then writes nothing.
@@ -24,16 +24,9 @@ pub fn run(task: &[u8], route: u64, first: u64, out: &mut [u8]) -> Ran
     ensures { λ r. ⌜ runReply r ≡ runAnswer (now (task .entry)) route first (now (out .entry)) ⌝ }
     ensures { λ _. ⌜ now (out .exit) ≡ runWrites (now (task .entry)) route first (now (out .entry)) ⌝ }
 {
-    match open_route(task, route) {
+    match open_list(task, route, first, out.len(), 2) {
         Planned::Refused(why) => Ran::Refused(why),
         Planned::Plan(p) => {
-            let moves = p.shortest();
-            if moves < first {
-                return Ran::Refused(Refusal::NoSuchIndex);
-            }
-            if first < moves && out.len() < 2 {
-                return Ran::Refused(Refusal::ShortBuffer);
-            }
             let n = task.len() / 2;
             Ran::Moves(run_from(&task[..n], &task[n..], p, route, first, out))
         }
@@ -48,7 +41,7 @@ fn run_from(start: &[u8], goal: &[u8], p: Plan, route: u64, first: u64, out: &mu
     ensures { λ r. ⌜ r ≡ min (shortest p - first) (length (now (out .entry)) / 2) ⌝ }
     ensures { λ r. ⌜ now (out .exit) ≡ letters (take r (drop first (routeOf (now (start .entry)) (now (goal .entry)) route))) ++ drop (2 * r) (now (out .entry)) ⌝ }
 {
-    let count = write::lesser(p.shortest() - first, out.len() / 2);
+    let count = lesser(p.shortest() - first, out.len() / 2);
     if 0 < count {
         let stepper = start::start_at(start, goal, p, route, first);
         write::write_moves(stepper, goal, count, out);

@@ -1,7 +1,7 @@
 // The moves of a route, written one after another.
 ghost use mathlib.Core.List.{_++_};
 ghost use mathlib.Core.Path.{_≡_};
-ghost use Prim.Native.Nat.{ℕ, _+_, _*_, _<_, _≤_, min};
+ghost use Prim.Native.Nat.{ℕ, _+_, _*_, _<_, _≤_};
 ghost use lib.ListN.{length, drop};
 ghost use lib.Seq.{sets};
 ghost use Rattle.board.specs.Position.{peg};
@@ -12,13 +12,7 @@ use crate::stepper::Stepper;
 use crate::stepper::Turn;
 use crate::stepper::next_leg;
 use board::LIMIT;
-
-// The lesser of two numbers.
-pub fn lesser(a: u64, b: usize) -> usize
-    ensures { λ r. ⌜ r ≡ min a b ⌝ }
-{
-    if a < b as u64 { a as usize } else { b }
-}
+use route::count::lesser;
 
 // Writes so many moves of a gathering from a place on, each as two letters, and answers the turn after them. No leg comes between: all
 // that a move needs is at hand.

@@ -11,26 +11,24 @@ use lib.ListN.{length, take, drop, length-append, length-take, length-drop}
 use lib.Seq.{take-at, drop-at}
 use Rattle.board.specs.Move.{Leads, top}
 use Rattle.board.specs.Position.{wellFormed, WellFormed}
-use Rattle.board.specs.Reply.{answer, pass}
+use Rattle.board.specs.Reply.{refused, answer, pass}
 use Rattle.board.specs.Task.{limit, discs, start, goal, taskCheck}
 use Rattle.board.proofs.Leads.{leads-formed, leads-size}
+use Rattle.board.proofs.Lists.{map-take, map-drop}
 use Rattle.board.proofs.Replies.{then-answered, check-answered, check-passed}
 use Rattle.board.proofs.Tasks.{SoundTask, task-accepted}
-use Rattle.route.specs.Answer.{lengthOf, taskRoute, routeCheck, moveAnswer, placeAnswer, placeWrites, runAnswer, runWrites, letters, Where, on, off, locatedAt, locateAnswer}
+use Rattle.route.specs.Answer.{lengthOf, taskRoute, routeCheck, moveAnswer, partAnswer, placeAnswer, placeWrites, runAnswer, runWrites, letters, Where, on, off, locatedAt, locateAnswer}
+use Rattle.route.specs.Inner.Open.{listCheck}
 use Rattle.route.specs.Ours.{readMoves}
+use Rattle.route.specs.Part.{partsOf, partAt}
 use Rattle.route.specs.Route.{plain, moveAt, after}
 use Rattle.route.specs.declared.answer.DiscMove.{DiscMove}
-use Rattle.route.proofs.Calls.Locating.{through, plain-take, located-back}
+use Rattle.route.proofs.Calls.Lists.{list-first, list-passed, list-passes}
+use Rattle.route.proofs.Calls.Locating.{through, located-back}
 use Rattle.route.proofs.Calls.Opened.{Routed, route-passed, route-passes}
 use Rattle.route.proofs.Calls.Letters.{PegMoves, leads-pegs, pegs-take, pegs-drop, letters-read, letters-length}
 use Rattle.route.proofs.Shortest.Routes.{route-walk, route-leads}
 use Rattle.route.proofs.Walks.Leading.{walk-disc}
-
--- Without their discs, what is left is what is left.
-plain-drop : (i : ℕ) (ms : List DiscMove) → map plain (drop i ms) ≡ drop i (map plain ms)
-plain-drop zero ms = refl
-plain-drop (suc i) [] = refl
-plain-drop (suc i) (m ∷ ms) = plain-drop i ms
 
 -- One place has one index and one route, and is not off.
 pub on-same : {i j r l : ℕ} → answer (on i r) ≡ answer (on j l) → (i ≡ j) × (r ≡ l)
@@ -119,6 +117,11 @@ module _ (t : List ℕ) (r : ℕ) (routed : Routed t r) where
   unfolding moveAnswer
   move-accepts i l = rw (route-passes t r (routed .accepted) (routed .known), lt-ltb i (lengthOf t) l)
 
+  -- And its part.
+  pub part-accepts : (i : ℕ) → i < lengthOf t → partAnswer t r i ≡ answer (partAt (partsOf (start t) (goal t) r) i)
+  unfolding partAnswer
+  part-accepts i l = rw (move-accepts i l)
+
   -- The first i entries lead to the position after them, which has n discs on pegs.
   pub place-leads : (i : ℕ) → Leads (start t) (map plain (take i (taskRoute t r))) (after (start t) (take i (taskRoute t r)))
   place-leads i =
@@ -150,17 +153,8 @@ module _ (t : List ℕ) (r : ℕ) (routed : Routed t r) where
       → runAnswer t r i out ≡ answer (min (lengthOf t - i) (length out / 2))
   unfolding runAnswer
   run-accepts i out l room =
-      elim (decLt i (lengthOf t)) [
-        | yes some ↦
-            rw (
-              route-passes t r (routed .accepted) (routed .known),
-              le-ltb (lengthOf t) i l,
-              le-ltb (length out) 2 (room some),
-              and-false,
-            )
-        | no none ↦
-            rw (route-passes t r (routed .accepted) (routed .known), le-ltb (lengthOf t) i l, le-ltb i (lengthOf t) (omega arith))
-      ]
+      let ready = list-passes t r i (length out) 2 (record { routed = routed; index = l; fits = room }) in
+      list-first t r i (length out) 2 _ ∙ rw ready
 
   -- The letters of the moves that Run counts.
   part-length : (i : ℕ) (out : List ℕ) →
@@ -199,20 +193,24 @@ place-answered t r i out e =
       sized = rw (e, place-size t r routed i) (joined-size q out (discs t) (place-size t r routed i) fits);
     }
 
+-- Where the checks of the list calls refuse, Run does.
+pub run-refuses : (t : List ℕ) (r i : ℕ) (out : List ℕ) {k : ℕ} → listCheck t r i (length out) 2 ≡ refused k → runAnswer t r i out ≡ refused k
+unfolding runAnswer
+run-refuses t r i out e = list-first t r i (length out) 2 _ ∙ rw e
+
 -- Of a Run.
 pub run-answered : (t : List ℕ) (r i : ℕ) (out : List ℕ) {k : ℕ} → runAnswer t r i out ≡ answer k → RunAnswered t r i out k
 unfolding runAnswer runWrites
 run-answered t r i out {k} e =
-    let (passed, rest) = then-answered (routeCheck t r) _ e in
-    let (index, more) = check-answered (ltb (lengthOf t) i) 5 _ rest in
-    let (buffer, same) = check-answered (ltb i (lengthOf t) && ltb (length out) 2) 6 _ more in
-    let routed = route-passed t r passed in
+    let (passed, same) = then-answered (listCheck t r i (length out) 2) _ (sym (list-first t r i (length out) 2 _) ∙ e) in
+    let listed = list-passed t r i (length out) 2 passed in
+    let routed = listed .routed in
     let count : min (lengthOf t - i) (length out / 2) ≡ k = cc in
     let fits : 2 * k ≤ length out = omega arith in
     let part = rw count at (part-length t r routed i out) in
     record {
       routed = routed;
-      index = ltb-false (lengthOf t) i index;
+      index = listed .index;
       count = sym count;
       room = fits;
       wrote = rw (e, part);
@@ -241,8 +239,8 @@ run-reads t r i out {k} ran =
     rw (ran .wrote)
     (ap readMoves (take-at (letters part) (drop (2 * k) out) (2 * k) size)
     ∙ letters-read part (pegs-take k (drop i (taskRoute t r)) (pegs-drop i (taskRoute t r) (route-pegs t r (ran .routed))))
-    ∙ plain-take k (drop i (taskRoute t r))
-    ∙ ap (take k) (plain-drop i (taskRoute t r)))
+    ∙ map-take plain k (drop i (taskRoute t r))
+    ∙ ap (take k) (map-drop plain i (taskRoute t r)))
 
 -- And its other bytes are as they stood.
 pub run-stays : (t : List ℕ) (r i : ℕ) (out : List ℕ) {k : ℕ} → RunAnswered t r i out k → drop (2 * k) (runWrites t r i out) ≡ drop (2 * k) out

@@ -12,6 +12,7 @@ use lib.Seq.{ext-getD, take-at}
 use Rattle.board.specs.Position.{WellFormed}
 use Rattle.board.specs.Move.{Move, Leads}
 use Rattle.board.specs.Fewest.{fewest, same}
+use Rattle.board.proofs.Lists.{map-take}
 use Rattle.board.proofs.Leads.{leads-append, leads-one, leads-formed, leads-size}
 use Rattle.board.proofs.Search.{same-sound, same-refl, same-apart}
 use Rattle.plan.specs.Plan.{planOf, shortest, routes}
@@ -77,12 +78,6 @@ module _ (s g : List ℕ) (size : length s ≡ length g) (hs : WellFormed s) (hg
         sum = omega (arith, a .some .2, b .some .2);
       }
 
--- Without their discs, the first moves are the first moves.
-pub plain-take : (i : ℕ) (ms : List DiscMove) → map plain (take i ms) ≡ take i (map plain ms)
-plain-take zero ms = refl
-plain-take (suc i) [] = refl
-plain-take (suc i) (m ∷ ms) = ap (λ (l : List Move). plain m ∷ l) (plain-take i ms)
-
 -- q is the position after i moves of route r, and of no lower route.
 pub record OnLowest (s g q : List ℕ) (i r : ℕ) : Type 0 where
   pub index : i ≤ shortest (planOf s g)
@@ -101,7 +96,7 @@ module _ (s g q : List ℕ) (size : length s ≡ length g) (sized : length s ≡
       omega (arith, length-append (a .some .0) (b .some .0), a .some .2, b .some .2, fewest-shortest s g size hs hg) in
       let (r, lt, f) = route-only s g size hs hg (a .some .0 ++ b .some .0) (leads-append (a .some .1) (b .some .1)) long in
       let moves : map plain (take (fewest s q) (routeOf s g r)) ≡ a .some .0 =
-      plain-take (fewest s q) (routeOf s g r) ∙ ap (take (fewest s q)) (sym f) ∙ take-at (a .some .0) (b .some .0) (fewest s q) (a .some .2) in
+      map-take plain (fewest s q) (routeOf s g r) ∙ ap (take (fewest s q)) (sym f) ∙ take-at (a .some .0) (b .some .0) (fewest s q) (a .some .2) in
       (r, lt, leads-one (rw moves at (through s g size hs hg r lt (fewest s q) .there)) (a .some .1))
 
   -- The number of the lowest route, by whether route 0 has it.

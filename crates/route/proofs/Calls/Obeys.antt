@@ -1,27 +1,26 @@
 -- Demand 1 of Move, Place, Run and Locate: each is refused as its faults say and never else, and a refusal leaves the buffer as it stood.
-use Prim.Native.Nat.{ℕ, _-_, _≤_, _<_}
-use mathlib.Core.Bool.{true, not, _&&_, and-eq-true-iff}
+use Prim.Native.Nat.{ℕ, _≤_}
+use mathlib.Core.Bool.{true, not}
 use mathlib.Core.List.{List}
 use mathlib.Core.Logic.{_≢_, _↔_}
 use mathlib.Core.Path.{_≡_}
-use borrow.Author.Tests.{eqb-false, ne-eqb, ltb-true, ltb-false, lt-ltb, le-ltb, not-true}
+use borrow.Author.Tests.{eqb-false, ne-eqb, ltb-false, le-ltb, not-true}
 use lib.Dec.{eqb, ltb}
 use lib.ListN.{length}
 use Rattle.board.specs.Fault.{Obeys}
 use Rattle.board.specs.Reply.{refused}
-use Rattle.board.specs.Task.{discs}
+use Rattle.board.specs.Task.{discs, start, goal}
 use Rattle.board.proofs.Formed.{not-formed}
 use Rattle.board.proofs.Obeys.{answer-obeys, check-obeys, then-obeys}
+use Rattle.board.proofs.Replies.{then-refused}
 use Rattle.board.proofs.Tasks.{task-obeys}
-use Rattle.route.specs.Answer.{lengthOf, moveAnswer, placeAnswer, placeWrites, runAnswer, runWrites, locateAnswer}
+use Rattle.route.specs.Answer.{lengthOf, moveAnswer, partAnswer, placeAnswer, placeWrites, runAnswer, runWrites, locateAnswer}
 use Rattle.route.specs.Faults.{moveFaults, placeFaults, runFaults, locateFaults}
+use Rattle.route.specs.Part.{partsOf, partAt}
+use Rattle.route.proofs.Calls.Lists.{below, list-answer-obeys}
 use Rattle.route.proofs.Calls.Opened.{route-obeys}
 
--- A test passes exactly where one number is below another.
-below : (a b : ℕ) → (ltb a b ≡ true) ↔ (a < b)
-below a b = (ltb-true a b, lt-ltb a b)
-
--- It fails exactly where it is not.
+-- A test fails exactly where one number is not below another.
 not-below : (a b : ℕ) → (not (ltb a b) ≡ true) ↔ (b ≤ a)
 not-below a b = ((λ e. ltb-false a b (not-true (ltb a b) e)), λ h. rw (le-ltb a b h))
 
@@ -29,16 +28,19 @@ not-below a b = ((λ e. ltb-false a b (not-true (ltb a b) e)), λ h. rw (le-ltb 
 differ : (a b : ℕ) → (not (eqb a b) ≡ true) ↔ (a ≢ b)
 differ a b = ((λ e. eqb-false a b (not-true (eqb a b) e)), λ n. rw (ne-eqb a b n))
 
--- Two tests pass together exactly where both facts hold.
-both : (a b c d : ℕ) → ((ltb a b && ltb c d) ≡ true) ↔ ((a < b) × (c < d))
-both a b c d = (
-  (λ e. let (x, y) = and-eq-true-iff (ltb a b) (ltb c d) .0 e in (ltb-true a b x, ltb-true c d y)),
-  λ (x, y). and-eq-true-iff (ltb a b) (ltb c d) .1 (lt-ltb a b x, lt-ltb c d y),
-)
-
 pub move-obeys : (t : List ℕ) (r i : ℕ) → Obeys (moveFaults t r i) (moveAnswer t r i)
 unfolding moveAnswer
 move-obeys t r i = then-obeys (route-obeys t r) (then-obeys (check-obeys _ 5 (not-below i (lengthOf t))) (answer-obeys _))
+
+-- Its part is refused as it is.
+pub part-obeys : (t : List ℕ) (r i : ℕ) → Obeys (moveFaults t r i) (partAnswer t r i)
+unfolding partAnswer
+part-obeys t r i =
+    let move = move-obeys t r i in
+    record {
+      refuses = λ k. ((λ e. move .refuses k .0 (then-refused (moveAnswer t r i) _ e)), λ f. rw (move .refuses k .1 f));
+      answers = λ none. let (m, e) = move .answers none in (partAt (partsOf (start t) (goal t) r) i, rw e);
+    }
 
 pub place-obeys : (t : List ℕ) (r i : ℕ) (out : List ℕ) → Obeys (placeFaults t r i out) (placeAnswer t r i out)
 unfolding placeAnswer
@@ -48,10 +50,7 @@ place-obeys t r i out =
 
 pub run-obeys : (t : List ℕ) (r i : ℕ) (out : List ℕ) → Obeys (runFaults t r i out) (runAnswer t r i out)
 unfolding runAnswer
-run-obeys t r i out =
-    then-obeys (route-obeys t r)
-    (then-obeys (check-obeys _ 5 (below (lengthOf t) i))
-    (then-obeys (check-obeys _ 6 (both i (lengthOf t) (length out) 2)) (answer-obeys _)))
+run-obeys t r i out = list-answer-obeys t r i (length out) 2 _
 
 pub locate-obeys : (t q : List ℕ) → Obeys (locateFaults t q) (locateAnswer t q)
 unfolding locateAnswer

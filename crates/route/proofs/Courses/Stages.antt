@@ -6,9 +6,8 @@ use mathlib.Core.List.{List, _∷_, _++_}
 use native.Mathlib.Decide.{ℕ-discrete, decLe, decLt}
 use native.Mathlib.Omega.{arith}
 use borrow.Author.Tests.{eq-eqb, ne-eqb, le-leb, lt-leb, lt-ltb, le-ltb}
-use lib.ListN.{length, take, List·getD-append}
+use lib.ListN.{length, take}
 use lib.Pow.{pow-pos}
-use lib.Seq.{getD-append-add, getD-at, take-append-le, take-append-add}
 use Rattle.board.specs.Peg.{third}
 use Rattle.plan.specs.Gather.{gather}
 use Rattle.plan.specs.Plan.{direct, detour}
@@ -19,37 +18,16 @@ use Rattle.plan.proofs.Gathering.{Pegs, gather-shift, gather-cong}
 use Rattle.route.specs.Inner.Along.{along}
 use Rattle.route.specs.Route.{carry, gathering, spreading, moveAt, directRoute, detourRoute}
 use Rattle.route.specs.Inner.Stage.{firstMoveOf, afterFirst, stageOf, stageMove, stagePeg}
-use Rattle.route.specs.declared.answer.DiscMove.{DiscMove}
 use Rattle.route.specs.declared.course.Course.{Course}
 use Rattle.route.specs.declared.course.Stage.the-variants.{Gathering, Shifting}
 use Rattle.route.proofs.Along.Along.{along-above, along-cong}
+use Rattle.route.proofs.Courses.Between.{entry-before, entry-here, entry-after, take-before, take-after}
 use Rattle.route.proofs.Gatherings.Gathering.{gathering-length}
 use Rattle.route.proofs.Along.Entries.{gathering-entry, spreading-entry, spreading-take}
 use Rattle.route.proofs.Along.Middle.{gathering-take}
 use Rattle.route.proofs.Shortest.Unique.{direct-is, detour-is, direct-sum, detour-sum}
 use Rattle.route.proofs.Walks.Walk.{Walk, walk-grow}
 use Rattle.route.proofs.Walks.Routes.{direct-part, aside, aside-pegs, aside-tower, aside-here, aside-above, aside-part, shift-list, detour-part}
-
--- An index before, at and after a move that stands between two lists.
-module _ (xs : List DiscMove) (m : DiscMove) (ys : List DiscMove) (n : ℕ) (size : length xs ≡ n) where
-  entry-before : (i : ℕ) → i < n → moveAt (xs ++ (m ∷ ys)) i ≡ moveAt xs i
-  entry-before i l = List·getD-append xs (m ∷ ys) _ i (omega arith)
-
-  entry-here : (i : ℕ) → i ≡ n → moveAt (xs ++ (m ∷ ys)) i ≡ m
-  entry-here i e = getD-at xs m ys _ i (size ∙ sym e)
-
-  entry-after : (i : ℕ) → n < i → moveAt (xs ++ (m ∷ ys)) i ≡ moveAt ys (i - n - 1)
-  entry-after i l =
-      let index : i ≡ length xs + suc (i - n - 1) = omega arith in
-      ap (λ (j : ℕ). moveAt (xs ++ (m ∷ ys)) j) index ∙ getD-append-add xs (m ∷ ys) (suc (i - n - 1)) _
-
-  take-before : (i : ℕ) → i ≤ n → take i (xs ++ (m ∷ ys)) ≡ take i xs
-  take-before i l = take-append-le i xs (m ∷ ys) (omega arith)
-
-  take-after : (i : ℕ) → n < i → take i (xs ++ (m ∷ ys)) ≡ xs ++ (m ∷ take (i - n - 1) ys)
-  take-after i l =
-      let index : i ≡ length xs + suc (i - n - 1) = omega arith in
-      ap (λ (j : ℕ). take j (xs ++ (m ∷ ys))) index ∙ take-append-add xs (m ∷ ys) (suc (i - n - 1))
 
 -- The stages of a course, by the index.
 module _ (c : Course) where
@@ -82,17 +60,17 @@ module _ (p q : ℕ → ℕ) (hp : Pegs p) (hq : Pegs q) (k z : ℕ) (h : Three 
       rw (direct-is p q k refl refl h)
       (elim (decLt i g) [
         | yes b ↦ rw (stage-first c i (omega arith), ne-eqb (g - i) 0 (omega arith))
-            (entry-before (gathering p k z) mid tail g size i b ∙ gathering-entry p hp k z i (h .third) (omega arith))
+            (entry-before _ (gathering p k z) mid tail g size i b ∙ gathering-entry p hp k z i (h .third) (omega arith))
         | no n ↦ elim (ℕ-discrete i g) [
-          | yes e ↦ rw (stage-first c i (omega arith), eq-eqb (g - i) 0 (omega arith)) (entry-here (gathering p k z) mid tail g size i e)
+          | yes e ↦ rw (stage-first c i (omega arith), eq-eqb (g - i) 0 (omega arith)) (entry-here _ (gathering p k z) mid tail g size i e)
           | no f ↦ rw (stage-later c i (omega arith))
-              (entry-after (gathering p k z) mid tail g size i (omega arith)
+              (entry-after _ (gathering p k z) mid tail g size i (omega arith)
               ∙ spreading-entry q hq k z (i - g - 1) (h .third) (omega (arith, direct-sum p q k refl refl h)))
         ]
       ])
 
   -- The shift is a tower's length.
-  shift-length : gather (λ _. q k) k (p k) ≡ towerLength k
+  pub shift-length : gather (λ _. q k) k (p k) ≡ towerLength k
   shift-length = omega (arith, gather-shift (λ _. q k) k (three-swap h) (λ d l. refl))
 
   -- The moves of the detour after its first crossing.
@@ -108,13 +86,13 @@ module _ (p q : ℕ → ℕ) (hp : Pegs p) (hq : Pegs q) (k z : ℕ) (h : Three 
       let tail = spreading q k (p k) in
       elim (decLt i t) [
         | yes b ↦ rw (le-leb i t (omega arith), ne-eqb (t - i) 0 (omega arith))
-            (entry-before list mid tail t size i b
+            (entry-before _ list mid tail t size i b
             ∙ gathering-entry (λ _. q k) (λ _. hq k) k (p k) i (hp k) (omega (arith, shift-length))
             ∙ ap (λ (n : ℕ). firstMoveOf (along (λ _. q k) k (p k) (n - i)) k (p k)) shift-length)
         | no n ↦ elim (ℕ-discrete i t) [
-          | yes e ↦ rw (le-leb i t (omega arith), eq-eqb (t - i) 0 (omega arith)) (entry-here list mid tail t size i e)
+          | yes e ↦ rw (le-leb i t (omega arith), eq-eqb (t - i) 0 (omega arith)) (entry-here _ list mid tail t size i e)
           | no f ↦ rw (lt-leb i t (omega arith))
-              (entry-after list mid tail t size i (omega arith)
+              (entry-after _ list mid tail t size i (omega arith)
               ∙ spreading-entry q hq k (p k) (i - t - 1) (hp k) (omega arith))
         ]
       ]
@@ -132,11 +110,11 @@ module _ (p q : ℕ → ℕ) (hp : Pegs p) (hq : Pegs q) (k z : ℕ) (h : Three 
       rw (detour-is p q k refl refl h)
       (elim (decLt i g) [
         | yes b ↦ rw (stage-first c i (omega arith), ne-eqb (g - i) 0 (omega arith))
-            (entry-before (gathering p k (q k)) mid tail g size i b ∙ gathering-entry p hp k (q k) i (hq k) (omega arith))
+            (entry-before _ (gathering p k (q k)) mid tail g size i b ∙ gathering-entry p hp k (q k) i (hq k) (omega arith))
         | no n ↦ elim (ℕ-discrete i g) [
-          | yes e ↦ rw (stage-first c i (omega arith), eq-eqb (g - i) 0 (omega arith)) (entry-here (gathering p k (q k)) mid tail g size i e)
+          | yes e ↦ rw (stage-first c i (omega arith), eq-eqb (g - i) 0 (omega arith)) (entry-here _ (gathering p k (q k)) mid tail g size i e)
           | no f ↦ rw (stage-later c i (omega arith))
-              (entry-after (gathering p k (q k)) mid tail g size i (omega arith)
+              (entry-after _ (gathering p k (q k)) mid tail g size i (omega arith)
               ∙ later-entry (i - g - 1) (omega (arith, detour-sum p q k refl refl h, pow-pos k)))
         ]
       ])

@@ -2,8 +2,9 @@
 -- start and at the goal.
 use Prim.Native.Nat.{ℕ, zero, suc, _+_, _-_, _^_, _<_}
 use mathlib.Core.Bool.{Bool, true, false, cond}
-use mathlib.Core.List.{List}
+use mathlib.Core.List.{List, _∷_, _++_}
 use lib.Dec.{eqb, ltb, leb}
+use lib.ListN.{replicate}
 use Rattle.board.specs.Peg.{third}
 use Rattle.board.specs.Position.{peg}
 use Rattle.plan.specs.Gather.{gather}
@@ -17,6 +18,8 @@ use Rattle.route.specs.declared.answer.DiscMove.{DiscMove}
 use Rattle.route.specs.declared.course.Course.{Course}
 use Rattle.route.specs.declared.course.Stage.{Stage}
 use Rattle.route.specs.declared.course.Stage.the-variants.{Gathering, Shifting, Spreading}
+use Rattle.route.specs.declared.part.Part.{Part}
+use Rattle.route.specs.declared.part.Part.the-variants.{Gather, Cross, Shift, Spread}
 
 -- Whether route r of a way is a detour.
 unfoldable pub isDetour : Way → ℕ → Bool
@@ -76,6 +79,25 @@ stageMove p q c (Shifting r) =
     (firstMoveOf (along (λ _. c .to) (c .disc) (c .from) r) (c .disc) (c .from))
 stageMove p q c (Spreading i) =
     turned (firstMoveOf (along q (c .disc) (lastPeg c) (i + 1)) (c .disc) (lastPeg c))
+
+-- Its part: a crossing where no move of the gathering or of the shift is left.
+unfoldable pub stagePart : Stage → Part
+stagePart (Gathering r) = cond (eqb r 0) Cross Gather
+stagePart (Shifting r) = cond (eqb r 0) Cross Shift
+stagePart (Spreading i) = Spread
+
+-- The moves between the first crossing and the spreading: those of the shift and of the second crossing. A direct course has none.
+abbrev pub shiftOf : Course → ℕ
+shiftOf c = cond (c .detour) (towerLength (c .disc)) 0
+
+abbrev pub secondOf : Course → ℕ
+secondOf c = cond (c .detour) 1 0
+
+-- The parts of all moves of a course that ends in so many moves of spreading.
+unfoldable pub courseParts : Course → ℕ → List Part
+courseParts c s =
+    replicate (c .first) Gather
+    ++ (Cross ∷ (replicate (shiftOf c) Shift ++ (replicate (secondOf c) Cross ++ replicate s Spread)))
 
 -- The peg of each disc at a stage.
 unfoldable pub stagePeg : (ℕ → ℕ) → (ℕ → ℕ) → Course → Stage → ℕ → ℕ

@@ -1,5 +1,5 @@
 -- `route::moves::move_at` meets its contract: the plan is opened for the route, and the index is checked on it. Assumes nothing.
-use mathlib.Core.Path.{_∙_, sym, ap}
+use mathlib.Core.Path.{_∙_, refl, sym, ap}
 use native.Mathlib.Omega.{arith}
 use borrow.Author.Needs.{needs}
 use borrow.Author.Tests.{lt-ltb, le-ltb}
@@ -7,7 +7,7 @@ use lib.ListN.{length-take}
 use Rattle.plan.specs.Answer.{planReply}
 use Rattle.plan.proofs.Parts.{part-to-end}
 use Rattle.plan.proofs.Sound.{task-ends}
-use Rattle.route.specs.Answer.{moveAnswer}
+use Rattle.route.specs.Answer.{moveAnswer, partAnswer}
 use Rattle.route.proofs.Calls.Opened.{OpenedRoute, open-answered, open-refused}
 use Rattle.route.proofs.moves.move_at.Statement.{statement}
 use Rattle.route.proofs.moves.move_at.Tie as tie
@@ -32,10 +32,10 @@ shortest-requires c κs = search needs
 
 -- There is no such index.
 returns : tie.Need-returns
-unfolding moveAnswer
+unfolding moveAnswer partAnswer
 returns c =
     let o = opened (c .before .before .before) in
-    rw (o .passed, o .plan, ← c .before .shortest .ensures, le-ltb _ _ (c .if1 .taken))
+    rw (o .passed, o .plan, ← c .before .shortest .ensures, le-ltb _ _ (c .if1 .taken)) (refl, refl)
 
 slice-aggregate-route-move : tie.Need-slice-aggregate-route-move
 slice-aggregate-route-move c = simp length-take (omega arith)
@@ -56,16 +56,17 @@ route-move-requires c κs =
 
 -- The task or the route number is refused.
 returns-2 : tie.Need-returns-2
-unfolding moveAnswer
-returns-2 c = rw (open-refused _ _ (sym (c .before .before .before .open-route .ensures) ∙ ap planReply (c .before .why .given .1)))
+unfolding moveAnswer partAnswer
+returns-2 c =
+    rw (open-refused _ _ (sym (c .before .before .before .open-route .ensures) ∙ ap planReply (c .before .why .given .1))) (refl, refl)
 
--- The move is answered.
+-- The move and its part are answered.
 returns-3 : tie.Need-returns-3
-unfolding moveAnswer
+unfolding moveAnswer partAnswer
 returns-3 c =
     let index = c .before .before .before in
     let o = opened (index .before .before .before) in
-    rw (o .passed, o .plan, ← index .before .shortest .ensures, lt-ltb _ _ (index .if1 .left), c .route-move .ensures, part-to-end)
+    rw (o .passed, o .plan, ← index .before .shortest .ensures, lt-ltb _ _ (index .if1 .left)) (rw part-to-end at (c .route-move .ensures))
 
 pub move-at-spec : {M : Type 1} → statement M
 move-at-spec =

@@ -1,12 +1,15 @@
--- `route::moves::route_move` meets its contract: the move is that of the stage of the index. Assumes nothing.
+-- `route::moves::route_move` meets its contract: the move and its part are those of the stage of the index. Assumes nothing.
 use Prim.Native.Nat.{_<_}
-use mathlib.Core.Path.{_∙_, sym}
+use mathlib.Core.Path.{_∙_, sym, ap}
 use native.Mathlib.Omega.{arith}
+use borrow.Author.Needs.{needs}
+use Rattle.board.specs.Reply.{answer}
 use Rattle.plan.specs.Plan.{planOf, shortest}
 use Rattle.route.specs.Inner.Stage.{CourseFits}
 use Rattle.route.proofs.Courses.Plan.{course-fits}
 use Rattle.plan.proofs.Sound.{ends-fit}
 use Rattle.route.proofs.Courses.Found.{route-entry, moves-some, stage-fits}
+use Rattle.route.proofs.Stretches.Entry.{route-part}
 use Rattle.route.proofs.moves.route_move.Statement.{statement}
 use Rattle.route.proofs.moves.route_move.Tie as tie
 use lib.ListN.{length}
@@ -39,10 +42,18 @@ stage-move-requires c κs =
       ),
     )
 
+part-requires : tie.Need-part-requires
+part-requires c κs = search needs
+
 returns : tie.Need-returns
 returns c =
-    let start = c .before .before .before .before .before in
-    c .stage-move .ensures ∙ rw (c .before .stage .ensures, c .before .before .of .ensures) (sym (route-entry _ _ (start .pre .0) _ _ (below start)))
+    let start = c .before .before .before .before .before .before in
+    let known = rw (start .pre .1 .0) at (start .pre .1 .1 .0) in (
+      ap answer (c .before .stage-move .ensures
+          ∙ rw (c .before .before .stage .ensures, c .before .before .before .of .ensures) (sym (route-entry _ _ (start .pre .0) _ _ (below start)))),
+      ap answer (c .part .ensures
+          ∙ rw (c .before .before .stage .ensures, c .before .before .before .of .ensures) (sym (route-part _ _ (start .pre .0) _ _ known (below start)))),
+    )
 
 pub route-move-spec : {M : Type 1} → statement M
-route-move-spec = tie.close (tie.spec of-requires stage-requires stage-move-requires returns)
+route-move-spec = tie.close (tie.spec of-requires stage-requires stage-move-requires part-requires returns)
