@@ -29,18 +29,17 @@ pub fn move_at(name: &[u8], task: &[u8], route: u64, index: u64) {
     text(b"\n");
 }
 
+// The calls that write into a buffer.
+enum Writes {
+    Place,
+    Run,
+    Parts,
+}
+
 fn place_into(task: &[u8], route: u64, index: u64, buffer: &mut [u8]) {
     let answer = route::place(task, route, index, buffer);
     show::placed(answer, buffer);
     text(b"\n");
-}
-
-// The answer of Place, and its buffer of so many bytes, which comes filled with dots.
-pub fn place(name: &[u8], task: &[u8], route: u64, index: u64, room: usize)
-    requires { ⌜ room ≤ 64 ⌝ }
-{
-    heading(b"place ", name);
-    place_into(task, route, index, &mut [b'.'; 64][..room]);
 }
 
 fn run_into(task: &[u8], route: u64, first: u64, buffer: &mut [u8]) {
@@ -49,12 +48,49 @@ fn run_into(task: &[u8], route: u64, first: u64, buffer: &mut [u8]) {
     text(b"\n");
 }
 
-// The answer of Run, and its buffer of so many bytes, which comes filled with dots.
+fn parts_into(task: &[u8], route: u64, first: u64, buffer: &mut [u8]) {
+    let answer = parts::parts(task, route, first, buffer);
+    show::ran(answer, buffer);
+    text(b"\n");
+}
+
+fn write_into(call: Writes, task: &[u8], route: u64, index: u64, buffer: &mut [u8]) {
+    match call {
+        Writes::Place => place_into(task, route, index, buffer),
+        Writes::Run => run_into(task, route, index, buffer),
+        Writes::Parts => parts_into(task, route, index, buffer),
+    }
+}
+
+// The answer of such a call, and its buffer of so many bytes, which comes filled with dots.
+fn write(call: Writes, task: &[u8], route: u64, index: u64, room: usize)
+    requires { ⌜ room ≤ 64 ⌝ }
+{
+    write_into(call, task, route, index, &mut [b'.'; 64][..room]);
+}
+
+// The answer of Place, and its buffer.
+pub fn place(name: &[u8], task: &[u8], route: u64, index: u64, room: usize)
+    requires { ⌜ room ≤ 64 ⌝ }
+{
+    heading(b"place ", name);
+    write(Writes::Place, task, route, index, room);
+}
+
+// The answer of Run, and its buffer.
 pub fn run(name: &[u8], task: &[u8], route: u64, first: u64, room: usize)
     requires { ⌜ room ≤ 64 ⌝ }
 {
     heading(b"run ", name);
-    run_into(task, route, first, &mut [b'.'; 64][..room]);
+    write(Writes::Run, task, route, first, room);
+}
+
+// The answer of Parts, and its buffer.
+pub fn parts(name: &[u8], task: &[u8], route: u64, first: u64, room: usize)
+    requires { ⌜ room ≤ 64 ⌝ }
+{
+    heading(b"parts ", name);
+    write(Writes::Parts, task, route, first, room);
 }
 
 // The answer of Locate.

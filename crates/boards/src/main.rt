@@ -1,6 +1,7 @@
-// Prints what the library answers on document 01's boards and on faulty calls.
+// Prints what the library answers on the boards of documents 01 and 02 and on faulty calls.
 mod boards;
 mod faults;
+mod letters;
 mod lines;
 mod routes;
 
@@ -8,4 +9,5 @@ fn main() {
     boards::all();
     faults::all();
     routes::all();
+    letters::all();
 }

@@ -1,4 +1,5 @@
 // What the search of a size counts.
+use crate::walking::Right;
 
 // More than any count here.
 pub const MANY: u64 = 4611686018427387904;
@@ -14,7 +15,7 @@ pub fn plus(a: u64, b: u64) -> u64 {
 }
 
 // 1 if a comparison holds, else 0.
-fn one_if(holds: bool) -> u64 {
+pub fn one_if(holds: bool) -> u64 {
     if holds { 1 } else { 0 }
 }
 
@@ -34,6 +35,7 @@ pub struct Tally {
     pub lengths: u64,
     pub counts: u64,
     pub routes: u64,
+    pub parts: u64,
     pub moves: u64,
     pub located: u64,
     pub wrong: u64,
@@ -48,6 +50,7 @@ impl Tally {
             lengths: 0,
             counts: 0,
             routes: 0,
+            parts: 0,
             moves: 0,
             located: 0,
             wrong: 0,
@@ -73,13 +76,14 @@ impl Tally {
     }
 
     // With the routes of a pair of a distance and a number of shortest lists, of which so many are right.
-    pub fn with_routes(mut self, distance: u64, lists: u64, right: u64) -> Tally {
-        self.routes = plus(self.routes, right);
+    pub fn with_routes(mut self, distance: u64, lists: u64, right: Right) -> Tally {
+        self.routes = plus(self.routes, right.routes);
+        self.parts = plus(self.parts, right.parts);
         self.moves = plus(self.moves, distance);
         if lists == 2 {
             self.moves = plus(self.moves, distance);
         }
-        self.judged(lists, right)
+        self.judged(lists, right.routes).judged(lists, right.parts)
     }
 
     // With so many positions located on the routes of a pair, of which so many are right.

@@ -1,10 +1,13 @@
 // Walks along the routes of a task: Move, Place and Run compared with the legal moves.
+use crate::parting::is_parted;
+use crate::parting::largest;
 use crate::position::NONE;
 use crate::position::after;
 use crate::position::are_pegs;
 use crate::position::top;
 use crate::position::wide;
 use crate::tally::MANY;
+use crate::tally::one_if;
 use crate::tally::plus;
 use board::Verdict;
 use route::Moving;
@@ -60,7 +63,7 @@ fn after_disc(at: usize, n: usize, disc: usize, from: usize, to: usize) -> usize
 fn moved(task: &[u8], route: u64, index: u64, n: usize, at: usize, letters: &[u8; 128]) -> usize {
     match route::move_at(task, route, index) {
         Moving::Refused(_) => NONE,
-        Moving::Move(m) => {
+        Moving::Move(m, _) => {
             let from = wide(m.from);
             let to = wide(m.to);
             if are_letters(letters, index, from, to) {
@@ -93,7 +96,22 @@ fn is_right(task: &[u8], route: u64, n: usize, start: usize, goal: usize, distan
     at == goal
 }
 
-// How many of the routes of a task, as many as it has shortest lists, are right.
+// How many routes of a task go right, and how many have the right letters.
+pub struct Right {
+    pub routes: u64,
+    pub parts: u64,
+}
+
+impl Right {
+    // With one more route.
+    fn with(mut self, route: bool, letters: bool) -> Right {
+        self.routes = plus(self.routes, one_if(route));
+        self.parts = plus(self.parts, one_if(letters));
+        self
+    }
+}
+
+// Of the routes of a task, as many as it has shortest lists, those that are right.
 pub fn right_routes(
     task: &[u8],
     n: usize,
@@ -101,13 +119,18 @@ pub fn right_routes(
     goal: usize,
     distance: u64,
     lists: u64,
-) -> u64 {
-    let mut right = 0;
+) -> Right {
+    let m = largest(start, goal, n);
+    let mut right = Right {
+        routes: 0,
+        parts: 0,
+    };
     let mut r = 0;
     while r < lists {
-        if is_right(task, r, n, start, goal, distance) {
-            right = plus(right, 1);
-        }
+        right = right.with(
+            is_right(task, r, n, start, goal, distance),
+            is_parted(task, r, m, distance),
+        );
         r += 1;
     }
     right

@@ -14,6 +14,7 @@ use plan::Way;
 use route::DiscMove;
 use route::Located;
 use route::Moving;
+use route::Part;
 use route::Ran;
 
 pub fn gathered(answer: Gathered) {
@@ -59,9 +60,23 @@ fn disc_move(m: DiscMove) {
     peg(m.to);
 }
 
+// A part's letter.
+fn part(of: Part) {
+    match of {
+        Part::Gather => text(b" G"),
+        Part::Cross => text(b" X"),
+        Part::Shift => text(b" T"),
+        Part::Spread => text(b" S"),
+    }
+}
+
+// Move's answer: the disc, its pegs and the part.
 pub fn moving(answer: Moving) {
     match answer {
-        Moving::Move(m) => disc_move(m),
+        Moving::Move(m, behind) => {
+            disc_move(m);
+            part(behind);
+        }
         Moving::Refused(why) => refused(why),
     }
 }
@@ -74,7 +89,7 @@ pub fn placed(answer: Verdict, buffer: &[u8]) {
     }
 }
 
-// Run's answer, and its buffer.
+// The answer of Run or Parts, and its buffer.
 pub fn ran(answer: Ran, buffer: &[u8]) {
     match answer {
         Ran::Moves(count) => {

@@ -6,10 +6,13 @@ use Rattle.search.proofs.walking.right_routes.Statement.{statement}
 use Rattle.search.proofs.walking.right_routes.Tie as tie
 
 abbrev Inv-loop : tie.InvT-loop
-Inv-loop task n start goal distance lists right₀ r₀ right r = r ≤ lists
+Inv-loop task n start goal distance lists m right₀ r₀ right r = r ≤ lists
 
 abbrev μ-loop : tie.MeasureT-loop
-μ-loop task n start goal distance lists right₀ r₀ right r = lists - r
+μ-loop task n start goal distance lists m right₀ r₀ right r = lists - r
+
+largest-requires : tie.Need-largest-requires Inv-loop μ-loop
+largest-requires c κs = search needs
 
 loop-holds : tie.Need-loop-holds Inv-loop μ-loop
 loop-holds c = search needs
@@ -17,8 +20,11 @@ loop-holds c = search needs
 is-right-requires : tie.Need-is-right-requires Inv-loop μ-loop
 is-right-requires c κs = search needs
 
-plus-requires : tie.Need-plus-requires Inv-loop μ-loop
-plus-requires c κs = search needs
+is-parted-requires : tie.Need-is-parted-requires Inv-loop μ-loop
+is-parted-requires c κs = search needs
+
+with-requires : tie.Need-with-requires Inv-loop μ-loop
+with-requires c κs = search needs
 
 add-r : tie.Need-add-r Inv-loop μ-loop
 add-r c = search needs
@@ -38,9 +44,11 @@ right-routes-spec =
     (tie.spec
     Inv-loop
     μ-loop
+    largest-requires
     loop-holds
     is-right-requires
-    plus-requires
+    is-parted-requires
+    with-requires
     add-r
     loop-less
     loop-again
