@@ -12,9 +12,11 @@ SANITIZE = -fsanitize=address,undefined -fno-sanitize-recover=all
 C = $(CC) -std=c99 $(WARNINGS) -D_DEFAULT_SOURCE -Iinclude -Itests
 
 LIBRARY = target/staticlib/libtowers.a
+PACE = target/staticlib/libpace.a
 HEADER = include/towers.h
 OUT = target/c
 SOURCES = crates.txt $(shell find crates/board crates/plan crates/route crates/run crates/towers -name '*.rt' -o -name '*.antt')
+PACE_SOURCES = crates.txt $(shell find crates/board crates/plan crates/route crates/parts crates/pace -name '*.rt' -o -name '*.antt')
 
 .PHONY: all library header example test bench install clean
 .DELETE_ON_ERROR:
@@ -58,8 +60,13 @@ test: header $(OUT)/host-sanitized $(OUT)/agree
 	$(OUT)/agree
 	tests/tower.sh
 
-$(OUT)/bench: bench/bench.c tests/hinz.c tests/hinz.h tests/random.h $(HEADER) $(LIBRARY) | $(OUT)
-	$(C) -O3 bench/bench.c tests/hinz.c $(LIBRARY) -o $@
+# Calls that C does not get, for the bench alone.
+$(PACE): $(PACE_SOURCES) | $(LIBRARY)
+	$(RT) staticlib pace
+	@touch $@
+
+$(OUT)/bench: bench/bench.c tests/hinz.c tests/hinz.h tests/random.h $(HEADER) $(LIBRARY) $(PACE) | $(OUT)
+	$(C) -O3 bench/bench.c tests/hinz.c $(LIBRARY) $(PACE) -o $@
 
 bench: $(OUT)/bench
 	$(OUT)/bench

@@ -1,18 +1,23 @@
 /* Measures the library beside tests/hinz.c in one run: the same inputs, alternating rounds, medians. Runs are measured beside both of
- * that file's: the one with the topmost disc of each peg and the disc beneath each disc, as the library's, and the one by counting. */
+ * that file's: the one with the topmost disc of each peg and the disc beneath each disc, as the library's, and the one by counting. The
+ * letters of Parts, which is no C call, come from crates/pace and are measured beside a memset of as many bytes. */
 #include <inttypes.h>
 #include <stdio.h>
 #include <stdlib.h>
+#include <string.h>
 #include <time.h>
 
 #include "hinz.h"
 #include "random.h"
 #include "towers.h"
 
-enum { ROUNDS = 101, TASKS = 4096, RUN_BYTES = 8 << 20 };
+enum { ROUNDS = 101, TASKS = 4096, RUN_BYTES = 8 << 20, PARTS_CALLS = 16 };
 
 typedef uint64_t shortest_fn(const uint8_t *task, size_t len);
 typedef uint64_t run_fn(const uint8_t *task, size_t len, uint64_t route, uint64_t first, uint8_t *out, size_t out_len);
+
+/* crates/pace: how many letters Parts wrote, or 0 where it refuses. */
+uint64_t pace_parts(const uint8_t *task, size_t len, uint64_t route, uint64_t first, uint8_t *out, size_t out_len);
 
 static double seconds(void)
 {
@@ -98,6 +103,46 @@ static void bench_run(const char *label, size_t bytes, uint8_t *out, run_fn *oth
     row(label, ours, theirs, "million moves a second");
 }
 
+/* As Parts fills the buffer, but with one letter. */
+static uint64_t fill(const uint8_t *task, size_t len, uint64_t route, uint64_t first, uint8_t *out, size_t out_len)
+{
+    memset(out, "GXTS"[(task[len - 1] + route + first) % 4], out_len);
+    return out_len;
+}
+
+/* Million letters a second, filling the buffer from random indexes of random tasks of 60 discs that leave as many moves. */
+static double time_parts(run_fn *f, const uint64_t *first, uint8_t *out, size_t bytes)
+{
+    uint64_t letters = 0;
+    double begun = seconds();
+    for (size_t i = 0; i < PARTS_CALLS; i++) {
+        letters += f(tasks[i], 2 * TOWER_LIMIT, 0, first[i], out, bytes);
+        sink += out[first[i] % bytes];
+    }
+    double taken = seconds() - begun;
+    if (letters != PARTS_CALLS * bytes)
+        exit(1);
+    return (double)letters / taken * 1e-6;
+}
+
+static void bench_parts(const char *label, size_t bytes, uint8_t *out)
+{
+    uint64_t first[PARTS_CALLS];
+    double ours[ROUNDS], theirs[ROUNDS];
+    make_tasks(TOWER_LIMIT);
+    for (size_t i = 0; i < PARTS_CALLS; i++) {
+        uint64_t moves = hinz_shortest(tasks[i], 2 * TOWER_LIMIT);
+        if (moves <= bytes)
+            exit(1);
+        first[i] = any() % (moves - bytes);
+    }
+    for (int r = 0; r < ROUNDS; r++) {
+        ours[r] = time_parts(pace_parts, first, out, bytes);
+        theirs[r] = time_parts(fill, first, out, bytes);
+    }
+    row(label, ours, theirs, "million letters a second");
+}
+
 int main(void)
 {
     uint8_t *out = malloc(4 << 20);
@@ -112,6 +157,8 @@ int main(void)
     bench_run("run, 4 MiB, by stacks", 4 << 20, out, hinz_run_stacks);
     bench_run("run, 64 KiB, by counting", 64 << 10, out, hinz_run);
     bench_run("run, 4 MiB, by counting", 4 << 20, out, hinz_run);
+    printf("%-28s %9s %9s %7s  A round: %d calls, from random indexes, 60 discs.\n", "", "library", "memset", "ratio", PARTS_CALLS);
+    bench_parts("letters of parts, 4 MiB", 4 << 20, out);
     free(out);
     return sink == 0;
 }

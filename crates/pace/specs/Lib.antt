@@ -1,0 +1,2 @@
+-- What the timed calls answer.
+pub mod Counts
