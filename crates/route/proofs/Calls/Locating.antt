@@ -1,8 +1,8 @@
 -- Positions of a route, and the way back from a position to its index.
-use Prim.Native.Nat.{ℕ, zero, suc, _+_, _≤_, _<_}
+use Prim.Native.Nat.{ℕ, _+_, _≤_, _<_}
 use mathlib.Core.Path.{_≡_, _∙_, ap, sym, refl, subst}
 use mathlib.Core.Bool.{Bool, true, false, false≢true}
-use mathlib.Core.List.{List, [], _∷_, _++_, map}
+use mathlib.Core.List.{List, _++_, map}
 use mathlib.Core.Logic.{_≢_, _⊎_, inl, inr, _↔_}
 use native.Mathlib.Decide.{ℕ-discrete, decLt}
 use native.Mathlib.Omega.{arith}
@@ -10,7 +10,7 @@ use borrow.Author.Tests.{eq-eqb, ne-eqb}
 use lib.ListN.{length, take, drop, length-append, length-map, length-take, length-drop}
 use lib.Seq.{ext-getD, take-at}
 use Rattle.board.specs.Position.{WellFormed}
-use Rattle.board.specs.Move.{Move, Leads}
+use Rattle.board.specs.Move.{Leads}
 use Rattle.board.specs.Fewest.{fewest, same}
 use Rattle.board.proofs.Lists.{map-take}
 use Rattle.board.proofs.Leads.{leads-append, leads-one, leads-formed, leads-size}

@@ -3,7 +3,7 @@ use Prim.Native.Nat.{ℕ, zero, suc, _+_, _-_, _≤_, _<_}
 use mathlib.Core.Bool.{Bool, true, false, cond}
 use mathlib.Core.List.{List, [], _∷_, _++_}
 use mathlib.Core.Logic.{_≢_, _↔_}
-use mathlib.Core.Path.{_≡_, _∙_, refl, sym, ap}
+use mathlib.Core.Path.{_≡_, _∙_, refl, ap}
 use native.Mathlib.Decide.{decLt}
 use native.Mathlib.Omega.{arith}
 use lib.ListN.{length, replicate, length-append, length-replicate, getD-replicate, List·getD-append}
@@ -21,8 +21,8 @@ use Rattle.route.specs.Route.{moveAt, carry, gathering, spreading, route
 use Rattle.route.specs.declared.answer.DiscMove.{DiscMove}
 use Rattle.route.specs.declared.part.Part.{Part}
 use Rattle.route.specs.declared.part.Part.the-variants.{Gather, Cross, Shift, Spread}
-use Rattle.route.proofs.Courses.Found.{plan-none, plan-disc}
-use Rattle.route.proofs.Shortest.View.{none, some, largest-view, plan-moving, plan-still}
+use Rattle.route.proofs.Courses.Found.{plan-disc}
+use Rattle.route.proofs.Shortest.View.{none, some, largest-view}
 use Rattle.route.proofs.Stretches.Joined.{route-joins}
 use Rattle.route.proofs.Stretches.Parts.{still-stretches, moving-stretches}
 use Rattle.route.proofs.Walks.Walk.{Walk, stay, go, gathers, walk-back}

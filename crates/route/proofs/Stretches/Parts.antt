@@ -1,9 +1,9 @@
 -- The parts of a route, by its course: each stretch is one part, as often as it has moves.
 use Prim.Native.Nat.{ℕ, zero, suc, _-_, _<_}
 use mathlib.Core.Bool.{Bool, true, false, cond}
-use mathlib.Core.List.{List, [], _∷_, _++_, append-nil}
+use mathlib.Core.List.{List, [], append-nil}
 use mathlib.Core.Logic.{_≢_}
-use mathlib.Core.Path.{_≡_, _∙_, refl, sym, ap}
+use mathlib.Core.Path.{_≡_, _∙_, refl}
 use native.Mathlib.Omega.{arith}
 use lib.ListN.{length}
 use Rattle.board.specs.Peg.{third}
@@ -13,13 +13,12 @@ use Rattle.board.proofs.Pegs.{third-peg}
 use Rattle.plan.specs.Gather.{gather}
 use Rattle.plan.specs.Plan.{largest, lengthsOf, wayOf, planOf}
 use Rattle.plan.specs.Inner.Sound.{Ends}
-use Rattle.plan.specs.Tower.{towerLength}
 use Rattle.plan.specs.declared.answer.Lengths.{Lengths}
 use Rattle.plan.specs.declared.answer.Way.the-variants.{Tie}
 use Rattle.plan.proofs.Gathering.{Pegs}
 use Rattle.plan.proofs.Three.{three}
 use Rattle.route.specs.Inner.Stage.{isDetour, lastPeg, courseBy, courseOf, courseParts}
-use Rattle.route.specs.Part.{Stretch, directStretches, detourStretches, stretchesBy, stretchesOf, partsIn, partsOf}
+use Rattle.route.specs.Part.{directStretches, detourStretches, stretchesBy, stretchesOf, partsIn, partsOf}
 use Rattle.route.proofs.Courses.Found.{plan-none, plan-disc, course-is}
 use Rattle.route.proofs.Courses.Stages.{shift-length}
 use Rattle.route.proofs.Gatherings.Backwards.{spreading-length}

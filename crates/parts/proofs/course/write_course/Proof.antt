@@ -9,7 +9,7 @@ use Rattle.route.specs.Inner.Stage.{shiftOf, secondOf}
 use Rattle.parts.specs.Inner.Course.{spreadsFrom}
 use Rattle.parts.proofs.Letters.{course-written}
 use Rattle.parts.specs.declared.pen.Pen.{Pen}
-use Rattle.parts.proofs.Pens.{Penned, penned-none, penned-room, penned-after, penned-all}
+use Rattle.parts.proofs.Pens.{Penned, penned-none, penned-room, penned-after}
 use Rattle.parts.proofs.course.write_course.Statement.{statement}
 use Rattle.parts.proofs.course.write_course.Tie as tie
 
