@@ -18,14 +18,14 @@ use Rattle.parts.specs.Inner.Course.{spreadsFrom}
 use Rattle.parts.specs.declared.pen.Pen.{Pen}
 use Rattle.parts.proofs.Pens.{Penned, penned-all}
 
--- As a pen puts them down, one stretch after another.
-abbrev pub strokes : Course → ℕ → List ℕ
-strokes c s =
-    [] ++ replicate (c .first) (partLetter Gather) ++ replicate 1 (partLetter Cross) ++ replicate (shiftOf c) (partLetter Shift)
-    ++ replicate (secondOf c) (partLetter Cross) ++ replicate s (partLetter Spread)
+-- As a pen puts them down, one stretch after another: so many moves of gathering, one crossing, a shift, a second crossing, spreading.
+abbrev pub strokes : ℕ → ℕ → ℕ → ℕ → List ℕ
+strokes g t x s =
+    [] ++ replicate g (partLetter Gather) ++ replicate 1 (partLetter Cross) ++ replicate t (partLetter Shift)
+    ++ replicate x (partLetter Cross) ++ replicate s (partLetter Spread)
 
 -- They are the letters of its parts.
-pub course-letters : (c : Course) (s : ℕ) → map partLetter (courseParts c s) ≡ strokes c s
+course-letters : (c : Course) (s : ℕ) → map partLetter (courseParts c s) ≡ strokes (c .first) (shiftOf c) (secondOf c) s
 unfolding courseParts
 course-letters c s =
     let gathers = replicate (c .first) (partLetter Gather) in
@@ -46,8 +46,8 @@ course-letters c s =
     ∙ append-assoc (gathers ++ cross) shifts (again ++ spreads)
     ∙ append-assoc gathers cross (shifts ++ (again ++ spreads))))
 
--- And as many as the parts.
-pub course-length : (c : Course) (s : ℕ) → length (courseParts c s) ≡ spreadsFrom c + s
+-- There are as many as the parts.
+course-length : (c : Course) (s : ℕ) → length (courseParts c s) ≡ spreadsFrom c + s
 unfolding courseParts
 course-length c s =
     omega (
@@ -62,14 +62,15 @@ course-length c s =
     )
 
 -- A pen that has put down all of them has written the course.
-pub course-written : (c : Course) (moves first : ℕ) (out₀ : List ℕ) {p : Pen} {out : List ℕ} → spreadsFrom c ≤ moves
-    → Penned first (strokes c (moves - spreadsFrom c)) out₀ p out
+pub course-written : (c : Course) (moves first : ℕ) (out₀ : List ℕ) {t x s : ℕ} {p : Pen} {out : List ℕ} → spreadsFrom c ≤ moves
+    → t ≡ shiftOf c → x ≡ secondOf c → s ≡ moves - spreadsFrom c → Penned first (strokes (c .first) t x s) out₀ p out
     → (p .at ≡ min (moves - first) (length out₀))
     × (out ≡ map partLetter (take (p .at) (drop first (courseParts c (moves - spreadsFrom c)))) ++ drop (p .at) out₀)
-course-written c moves first out₀ {p} {out} long h =
-    let parts = courseParts c (moves - spreadsFrom c) in
-    let written = rw (← course-letters c (moves - spreadsFrom c)) at h in
-    let size : length (map partLetter parts) ≡ moves = omega (arith, length-map parts partLetter, course-length c (moves - spreadsFrom c)) in (
+course-written c moves first out₀ {p = p} long shift second spread h =
+    let rest = moves - spreadsFrom c in
+    let parts = courseParts c rest in
+    let written = rw (shift, second, spread, ← course-letters c rest) at h in
+    let size : length (map partLetter parts) ≡ moves = omega (arith, length-map parts partLetter, course-length c rest) in (
       rw size at (written .at),
       rw (map-take partLetter (p .at) (drop first parts), map-drop partLetter first parts) (penned-all written),
     )

@@ -91,12 +91,3 @@ route-parts s t e moves r =
           rw (course-is s t k m r _ refl, moving-stretches s t k r m)
           (course-parts (peg s) (peg t) (formed-pegs s (e .start-formed)) (formed-pegs t (e .goal-formed)) k away _)
     ]
-
--- Where no disc moves there is none.
-pub still-parts : (s t : List ℕ) → planOf s t .largest ≡ 0 → (r : ℕ) → partsOf s t r ≡ []
-unfolding partsOf partsIn
-still-parts s t still r =
-    elim (largest-view (peg s) (peg t) (length s)) [
-      | none m home ↦ rw (still-stretches s t r m)
-      | some k m b away home c ↦ absurd (omega (arith, plan-disc s t k m))
-    ]

@@ -5,7 +5,6 @@ use native.Mathlib.Omega.{arith}
 use mathlib.Core.List.{List, [], _++_}
 use borrow.Author.Needs.{needs}
 use lib.ListN.{replicate}
-use Rattle.route.specs.Inner.Stage.{shiftOf, secondOf}
 use Rattle.parts.specs.Inner.Course.{spreadsFrom}
 use Rattle.parts.proofs.Letters.{course-written}
 use Rattle.parts.specs.declared.pen.Pen.{Pen}
@@ -34,72 +33,83 @@ sub-spread-4 c = search needs
 stretch-requires : tie.Need-stretch-requires
 stretch-requires c κs = search needs
 
+-- Where the counts of all stretches are known, seen from behind each stretch.
+abbrev counts : tie.After-stretch → tie.After-second
+counts c = c .before .before .before
+
+abbrev counts2 : tie.After-stretch2 → tie.After-second
+counts2 c = counts (c .before .before .before .before)
+
+abbrev counts3 : tie.After-stretch3 → tie.After-second
+counts3 c = counts2 (c .before .before .before .before)
+
+abbrev counts4 : tie.After-stretch4 → tie.After-second
+counts4 c = counts3 (c .before .before .before .before)
+
+abbrev counts5 : tie.After-stretch5 → tie.After-second
+counts5 c = counts4 (c .before .before .before .before)
+
+-- The letters of the stretches, one after another.
+abbrev gathers : tie.After-second → List ℕ
+gathers c = [] ++ replicate (c .before .before .before .args .course .first) 71
+
+abbrev crosses : tie.After-second → List ℕ
+crosses c = gathers c ++ replicate 1 88
+
+abbrev shifts : tie.After-second → List ℕ
+shifts c = crosses c ++ replicate (c .before .shift .result) 84
+
+abbrev recrosses : tie.After-second → List ℕ
+recrosses c = shifts c ++ replicate (c .second .result) 88
+
+abbrev left : tie.After-second → ℕ
+left c = let args = c .before .before .before .args in args .moves - args .course .first - 1 - c .before .shift .result - c .second .result
+
+abbrev spreads : tie.After-second → List ℕ
+spreads c = recrosses c ++ replicate (left c) 83
+
 -- The buffer has the letters so far.
-abbrev Wrote : tie.Start → List ℕ → Pen → List ℕ → Type 0
-Wrote start letters pen out = Penned (start .args .first) letters (start .args .out .now) pen out
+abbrev Wrote : tie.After-second → List ℕ → Pen → List ℕ → Type 0
+Wrote c letters pen out = let args = c .before .before .before .args in Penned (args .first) letters (args .out .now) pen out
 
--- The letters of each stretch.
-abbrev gathers : (c : tie.After-second) → List ℕ
-gathers c = replicate (c .before .before .before .args .course .first) 71
-
-abbrev shifts : (c : tie.After-second) → List ℕ
-shifts c = replicate (c .before .shift .result) 84
-
-abbrev again : (c : tie.After-second) → List ℕ
-again c = replicate (c .second .result) 88
-
-abbrev spreads : (c : tie.After-second) → ℕ
-spreads c = let args = c .before .before .before .args in args .moves - args .course .first - 1 - c .before .shift .result - c .second .result
-
-gathered : (c : tie.After-stretch) →
-    let at = c .before .before .before in
-    Wrote (at .before .before .before) ([] ++ gathers at) (c .stretch .result) (c .stretch .last .1 .1 .1 .0)
+gathered : (c : tie.After-stretch) → Wrote (counts c) (gathers (counts c)) (c .stretch .result) (c .stretch .last .1 .1 .1 .0)
 gathered c = penned-after (penned-none _ _) _ _ (c .stretch .ensures .0) (c .stretch .ensures .1)
 
 stretch-requires-2 : tie.Need-stretch-requires-2
 stretch-requires-2 c κs = penned-room (gathered (c .before .before .before))
 
-crossed : (c : tie.After-stretch2) →
-    let at = c .before .before .before .before .before .before .before in
-    Wrote (at .before .before .before) ([] ++ gathers at ++ replicate 1 88) (c .stretch2 .result) (c .stretch2 .last .1 .1 .1 .0)
+crossed : (c : tie.After-stretch2) → Wrote (counts2 c) (crosses (counts2 c)) (c .stretch2 .result) (c .stretch2 .last .1 .1 .1 .0)
 crossed c = penned-after (gathered (c .before .before .before .before)) _ _ (c .stretch2 .ensures .0) (c .stretch2 .ensures .1)
 
 stretch-requires-3 : tie.Need-stretch-requires-3
 stretch-requires-3 c κs = penned-room (crossed (c .before .before .before))
 
-shifted : (c : tie.After-stretch3) →
-    let at = c .before .before .before .before .before .before .before .before .before .before .before in
-    Wrote (at .before .before .before) ([] ++ gathers at ++ replicate 1 88 ++ shifts at) (c .stretch3 .result) (c .stretch3 .last .1 .1 .1 .0)
+shifted : (c : tie.After-stretch3) → Wrote (counts3 c) (shifts (counts3 c)) (c .stretch3 .result) (c .stretch3 .last .1 .1 .1 .0)
 shifted c = penned-after (crossed (c .before .before .before .before)) _ _ (c .stretch3 .ensures .0) (c .stretch3 .ensures .1)
 
 stretch-requires-4 : tie.Need-stretch-requires-4
 stretch-requires-4 c κs = penned-room (shifted (c .before .before .before))
 
-recrossed : (c : tie.After-stretch4) →
-    let at = c .before .before .before .before .before .before .before .before .before .before .before .before .before .before .before in
-    Wrote (at .before .before .before) ([] ++ gathers at ++ replicate 1 88 ++ shifts at ++ again at) (c .stretch4 .result) (c .stretch4 .last .1 .1 .1 .0)
+recrossed : (c : tie.After-stretch4) → Wrote (counts4 c) (recrosses (counts4 c)) (c .stretch4 .result) (c .stretch4 .last .1 .1 .1 .0)
 recrossed c = penned-after (shifted (c .before .before .before .before)) _ _ (c .stretch4 .ensures .0) (c .stretch4 .ensures .1)
 
 stretch-requires-5 : tie.Need-stretch-requires-5
 stretch-requires-5 c κs = penned-room (recrossed (c .before .before .before))
 
--- All is written.
-spreaded : (c : tie.After-stretch5) →
-    let at = c .before .before .before .before .before .before .before .before .before .before .before .before .before .before .before .before .before .before .before in
-    Wrote (at .before .before .before) ([] ++ gathers at ++ replicate 1 88 ++ shifts at ++ again at ++ replicate (spreads at) 83) (c .stretch5 .result) (c .stretch5 .last .1 .1 .1 .0)
-spreaded c = penned-after (recrossed (c .before .before .before .before)) _ _ (c .stretch5 .ensures .0) (c .stretch5 .ensures .1)
+all : (c : tie.After-stretch5) → Wrote (counts5 c) (spreads (counts5 c)) (c .stretch5 .result) (c .stretch5 .last .1 .1 .1 .0)
+all c = penned-after (recrossed (c .before .before .before .before)) _ _ (c .stretch5 .ensures .0) (c .stretch5 .ensures .1)
 
 same-length : tie.Need-same-length
 same-length c = search needs
 
+-- All letters are those of the course.
 returns : tie.Need-returns
 returns c =
-    let done = c .before .before in
-    let at = done .before .before .before .before .before .before .before .before .before .before .before .before .before .before .before .before .before .before .before in
+    let at = counts5 (c .before .before) in
     let args = at .before .before .before .args in
-    let spread : args .moves - args .course .first - 1 - shiftOf (args .course) - secondOf (args .course) ≡ args .moves - spreadsFrom (args .course) = omega arith in
+    let rest : left at ≡ args .moves - spreadsFrom (args .course) = omega (arith, at .before .shift .ensures, at .second .ensures) in
     course-written (args .course) (args .moves) (args .first) (args .out .now) (at .before .before .before .pre .1)
-    (rw (at .before .shift .ensures, at .second .ensures, spread) at (spreaded done))
+    (at .before .shift .ensures) (at .second .ensures) rest (all (c .before .before))
 
 pub write-course-spec : {M : Type 1} → statement M
 write-course-spec =
