@@ -120,8 +120,10 @@ static double time_parts(run_fn *f, const uint64_t *first, uint8_t *out, size_t 
         sink += out[first[i] % bytes];
     }
     double taken = seconds() - begun;
-    if (letters != PARTS_CALLS * bytes)
+    if (letters != PARTS_CALLS * bytes) {
+        fprintf(stderr, "bench: a buffer was not filled\n");
         exit(1);
+    }
     return (double)letters / taken * 1e-6;
 }
 
@@ -132,8 +134,10 @@ static void bench_parts(const char *label, size_t bytes, uint8_t *out)
     make_tasks(TOWER_LIMIT);
     for (size_t i = 0; i < PARTS_CALLS; i++) {
         uint64_t moves = hinz_shortest(tasks[i], 2 * TOWER_LIMIT);
-        if (moves <= bytes)
+        if (moves <= bytes) {
+            fprintf(stderr, "bench: a random task of 60 discs has too few moves\n");
             exit(1);
+        }
         first[i] = any() % (moves - bytes);
     }
     for (int r = 0; r < ROUNDS; r++) {
@@ -157,8 +161,9 @@ int main(void)
     bench_run("run, 4 MiB, by stacks", 4 << 20, out, hinz_run_stacks);
     bench_run("run, 64 KiB, by counting", 64 << 10, out, hinz_run);
     bench_run("run, 4 MiB, by counting", 4 << 20, out, hinz_run);
-    printf("%-28s %9s %9s %7s  A round: %d calls, from random indexes, 60 discs.\n", "", "library", "memset", "ratio", PARTS_CALLS);
-    bench_parts("letters of parts, 4 MiB", 4 << 20, out);
+    printf("Letters, a round: %d calls of parts into 4 MiB, from random indexes, 60 discs.\n", PARTS_CALLS);
+    printf("%-28s %9s %9s %7s\n", "", "library", "memset", "ratio");
+    bench_parts("parts, 4 MiB, by memset", 4 << 20, out);
     free(out);
     return sink == 0;
 }

@@ -1,5 +1,6 @@
--- Laws of the board's vocabulary, in the order of its definitions.
+-- Laws of lists that the layers above use too.
 pub mod Lists
+-- Laws of the board's vocabulary, in the order of its definitions.
 pub mod Pegs
 pub mod Formed
 pub mod Top

@@ -60,11 +60,11 @@ fn direct() {
     lines::parts(b"no discs from 0, no buffer", b"", 0, 0, 0);
 }
 
-// The six-disc board: all 43 moves, and the two crossings.
+// The six-disc board: all 43 moves, and about each crossing.
 fn six(task: &[u8]) {
     lines::parts(b"six discs", task, 0, 0, 64);
     lines::parts(b"six discs from 5, 8 bytes", task, 0, 5, 8);
-    lines::parts(b"six discs, the last 4 moves", task, 0, 39, 8);
+    lines::parts(b"six discs from 36, 8 bytes", task, 0, 36, 8);
 }
 
 // 60 discs, all 0 to all 2: about the crossing, and the end.

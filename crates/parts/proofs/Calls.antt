@@ -1,5 +1,5 @@
 -- What Parts answers, and when: the laws for whoever calls it.
-use Prim.Native.Nat.{ℕ, _+_, _-_, _≤_, min}
+use Prim.Native.Nat.{ℕ, _-_, _≤_, min}
 use mathlib.Core.List.{List, _++_, map}
 use mathlib.Core.Path.{_≡_, _∙_, sym}
 use native.Mathlib.Omega.{arith}
@@ -12,6 +12,7 @@ use Rattle.route.specs.Answer.{lengthOf}
 use Rattle.route.specs.Inner.Open.{listCheck}
 use Rattle.route.specs.Part.{partLetter, partsOf}
 use Rattle.route.proofs.Annotated.{parts-long}
+use Rattle.route.proofs.Calls.Answers.{joined-size}
 use Rattle.route.proofs.Calls.Lists.{Listed, list-first, list-answer-obeys, list-passed, list-passes}
 use Rattle.route.proofs.Calls.Opened.{Routed}
 use Rattle.parts.specs.Answer.{partsAnswer, partsWrites}
@@ -41,7 +42,9 @@ pub record PartsAnswered (t : List ℕ) (r i : ℕ) (out : List ℕ) (k : ℕ) :
   pub routed : Routed t r
   pub index : i ≤ lengthOf t
   pub count : k ≡ min (lengthOf t - i) (length out)
+  pub room : k ≤ length out
   pub wrote : partsWrites t r i out ≡ map partLetter (take k (drop i (partsOf (start t) (goal t) r))) ++ drop k out
+  pub sized : length (partsWrites t r i out) ≡ length out
 
 pub parts-answered : (t : List ℕ) (r i : ℕ) (out : List ℕ) {k : ℕ} → partsAnswer t r i out ≡ answer k → PartsAnswered t r i out k
 unfolding partsAnswer partsWrites
@@ -53,4 +56,12 @@ parts-answered t r i out {k} e =
     let long : length parts ≡ lengthOf t = parts-long t r (l .routed) in
     let size : length (map partLetter (take k (drop i parts))) ≡ k =
     omega (arith, length-map (take k (drop i parts)) partLetter, length-take k (drop i parts), length-drop i parts) in
-    record { routed = l .routed; index = l .index; count = sym count; wrote = rw (e, size) }
+    let room : k ≤ length out = omega arith in
+    record {
+      routed = l .routed;
+      index = l .index;
+      count = sym count;
+      room = room;
+      wrote = rw (e, size);
+      sized = rw (e, size) (joined-size (map partLetter (take k (drop i parts))) out k size room);
+    }

@@ -63,13 +63,13 @@ course-length c s =
 
 -- A pen that has put down all of them has written the course.
 pub course-written : (c : Course) (moves first : ℕ) (out₀ : List ℕ) {t x s : ℕ} {p : Pen} {out : List ℕ} → spreadsFrom c ≤ moves
-    → t ≡ shiftOf c → x ≡ secondOf c → s ≡ moves - spreadsFrom c → Penned first (strokes (c .first) t x s) out₀ p out
+    → t ≡ shiftOf c → x ≡ secondOf c → s ≡ moves - (c .first + 1 + t + x) → Penned first (strokes (c .first) t x s) out₀ p out
     → (p .at ≡ min (moves - first) (length out₀))
     × (out ≡ map partLetter (take (p .at) (drop first (courseParts c (moves - spreadsFrom c)))) ++ drop (p .at) out₀)
 course-written c moves first out₀ {p = p} long shift second spread h =
     let rest = moves - spreadsFrom c in
     let parts = courseParts c rest in
-    let written = rw (shift, second, spread, ← course-letters c rest) at h in
+    let written = rw (spread, shift, second, ← course-letters c rest) at h in
     let size : length (map partLetter parts) ≡ moves = omega (arith, length-map parts partLetter, course-length c rest) in (
       rw size at (written .at),
       rw (map-take partLetter (p .at) (drop first parts), map-drop partLetter first parts) (penned-all written),

@@ -30,6 +30,14 @@ fn second(course: Course) -> u64
     if course.detour { 1 } else { 0 }
 }
 
+// What is left of so many moves after the gathering, the crossings and the shift: the spreading.
+fn left(moves: u64, gathered: u64, shifted: u64, again: u64) -> u64
+    requires { ⌜ gathered + 1 + shifted + again ≤ moves ⌝ }
+    ensures { λ r. ⌜ r ≡ moves - (gathered + 1 + shifted + again) ⌝ }
+{
+    moves - gathered - 1 - shifted - again
+}
+
 // Writes the letters of a course of so many moves from an index on, as many as remain or fit, and answers how many.
 pub fn write_course(course: Course, moves: u64, first: u64, out: &mut [u8]) -> usize
     requires { ⌜ course .disc ≤ limit ⌝ }
@@ -39,7 +47,7 @@ pub fn write_course(course: Course, moves: u64, first: u64, out: &mut [u8]) -> u
 {
     let shifted = shift(course);
     let again = second(course);
-    let spread = moves - course.first - 1 - shifted - again;
+    let spread = left(moves, course.first, shifted, again);
     let mut pen = Pen { at: 0, skip: first };
     pen = pen.stretch(Part::Gather, course.first, out);
     pen = pen.stretch(Part::Cross, 1, out);

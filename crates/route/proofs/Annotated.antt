@@ -2,6 +2,7 @@
 use Prim.Native.Nat.{ℕ, zero, suc, _+_, _-_, _≤_, _<_}
 use mathlib.Core.Bool.{Bool, true, false, cond}
 use mathlib.Core.List.{List, _∷_, _++_, map, map-append}
+use mathlib.Core.Logic.{_↔_}
 use mathlib.Core.Path.{_≡_, _∙_, refl, sym, ap, subst}
 use native.Mathlib.Omega.{arith}
 use lib.ListN.{length, take, drop, replicate}
@@ -26,6 +27,7 @@ use Rattle.route.specs.Answer.{lengthOf, countOf, taskRoute}
 use Rattle.route.specs.Inner.Stage.{isDetour, courseOf, courseBy, courseParts}
 use Rattle.route.specs.Part.{partLetter, partsOf, partAt}
 use Rattle.route.specs.Route.{moveAt}
+use Rattle.route.specs.declared.part.Part.{Part}
 use Rattle.route.specs.declared.part.Part.the-variants.{Gather, Cross, Shift, Spread}
 use Rattle.route.proofs.Calls.Answers.{route-length, move-accepts, part-accepts}
 use Rattle.route.proofs.Calls.Opened.{Routed}
@@ -51,6 +53,13 @@ detour-letters g t s =
       map-replicate partLetter t Shift,
       map-replicate partLetter s Spread,
     )
+
+-- X is the letter of a crossing and of no other part.
+letter-cross : (a : Part) → (partLetter a ≡ X) ↔ (a ≡ Cross)
+letter-cross Gather = ((λ e. absurd (omega arith)), λ e. absurd (omega (arith, ap partLetter e)))
+letter-cross Cross = ((λ e. refl), λ e. refl)
+letter-cross Shift = ((λ e. absurd (omega arith)), λ e. absurd (omega (arith, ap partLetter e)))
+letter-cross Spread = ((λ e. absurd (omega arith)), λ e. absurd (omega (arith, ap partLetter e)))
 
 -- The letters of a route with disc m, by whether it is a detour.
 lettered : (s g : List ℕ) → Ends s g → 0 < planOf s g .largest → (r : ℕ) (b : Bool) → isDetour (planOf s g .way) r ≡ b
@@ -96,10 +105,13 @@ module _ (t : List ℕ) (r : ℕ) (routed : Routed t r) where
   parted i l =
       record {
         move = moveAt (taskRoute t r) i;
-        part = partAt (partsOf (start t) (goal t) r) i;
+        letter = partLetter (partAt (partsOf (start t) (goal t) r) i);
         moved = move-accepts t r routed i l;
         answered = part-accepts t r routed i l;
-        crosses = route-crosses (start t) (goal t) ends r i (omega (arith, route-length t r routed));
+        crosses =
+            let part = letter-cross (partAt (partsOf (start t) (goal t) r) i) in
+            let disc = route-crosses (start t) (goal t) ends r i (omega (arith, route-length t r routed)) in
+            ((λ e. disc .0 (part .0 e)), λ e. part .1 (disc .1 e));
       }
 
 module _ (t : List ℕ) (accepted : taskCheck t ≡ pass) where

@@ -14,20 +14,18 @@ use Rattle.plan.specs.declared.answer.Plan.{Plan}
 use Rattle.plan.specs.declared.answer.Way.{Way}
 use Rattle.plan.specs.declared.answer.Way.the-variants.{Still, Direct, Detour, Tie}
 use Rattle.route.specs.Answer.{lengthOf, countOf, taskRoute, moveAnswer, partAnswer}
-use Rattle.route.specs.Part.{partLetter, stretchesOf, joined}
+use Rattle.route.specs.Part.{stretchesOf, joined}
 use Rattle.route.specs.declared.answer.DiscMove.{DiscMove}
-use Rattle.route.specs.declared.part.Part.{Part}
-use Rattle.route.specs.declared.part.Part.the-variants.{Cross}
 
--- The letter of the part that Move answers; none where it is refused.
-abbrev pub partSaid : Reply Part → List ℕ
-partSaid (refused k) = []
-partSaid (answer a) = partLetter a ∷ []
+-- The letter that Move answers; none where it is refused.
+abbrev pub letterSaid : Reply ℕ → List ℕ
+letterSaid (refused k) = []
+letterSaid (answer a) = a ∷ []
 
--- What Move answers for route r at so many indexes from i on.
+-- The letters that Move answers for route r at so many indexes from i on.
 unfoldable pub lettersFrom : List ℕ → ℕ → ℕ → ℕ → List ℕ
 lettersFrom t r i zero = []
-lettersFrom t r i (suc n) = partSaid (partAnswer t r i) ++ lettersFrom t r (suc i) n
+lettersFrom t r i (suc n) = letterSaid (partAnswer t r i) ++ lettersFrom t r (suc i) n
 
 -- The letters of a whole route: those that Move answers for each index below the length, in that order.
 abbrev pub wholeLetters : List ℕ → ℕ → List ℕ
@@ -66,18 +64,18 @@ Lettered (Direct l) letters direct detour = letters 0 ≡ direct
 Lettered (Detour l) letters direct detour = letters 0 ≡ detour
 Lettered (Tie l) letters direct detour = (letters 0 ≡ direct) × (letters 1 ≡ detour)
 
--- Move answers a move and its part, which is X exactly if the disc is the plan's largest.
+-- Move answers a move and the letter of its part, which is X exactly if the disc is the plan's largest.
 pub record Parted (t : List ℕ) (r i : ℕ) : Type 0 where
   pub move : DiscMove
-  pub part : Part
+  pub letter : ℕ
   pub moved : moveAnswer t r i ≡ answer move
-  pub answered : partAnswer t r i ≡ answer part
-  pub crosses : (part ≡ Cross) ↔ (move .disc ≡ planOf (start t) (goal t) .largest)
+  pub answered : partAnswer t r i ≡ answer letter
+  pub crosses : (letter ≡ X) ↔ (move .disc ≡ planOf (start t) (goal t) .largest)
 
 pub record Annotated (t : List ℕ) : Type 0 where
   -- The moves of a route's stretches, joined, are the route.
   pub joins : (r : ℕ) → joined (stretchesOf (start t) (goal t) r) ≡ taskRoute t r
-  -- Move answers a part at every index of a route.
+  -- Move answers a letter at every index of a route.
   pub parted : (r i : ℕ) → r < countOf t → i < lengthOf t → Parted t r i
   -- All letters of each route.
   pub whole :

@@ -10,7 +10,7 @@ use Rattle.board.specs.Refusal.{number}
 use Rattle.board.specs.Reply.{Reply, refused, answer, _>>_, _>>=_, Check, check, written}
 use Rattle.board.specs.Task.{discs, start, goal, taskCheck}
 use Rattle.plan.specs.Plan.{planOf, shortest, routes}
-use Rattle.route.specs.Part.{partsOf, partAt}
+use Rattle.route.specs.Part.{partLetter, partsOf, partAt}
 use Rattle.route.specs.Route.{routeOf, moveAt, after}
 use Rattle.route.specs.declared.answer.DiscMove.{DiscMove}
 use Rattle.route.specs.declared.answer.Moving.{Moving}
@@ -19,7 +19,6 @@ use Rattle.route.specs.declared.answer.Ran.{Ran}
 use Rattle.route.specs.declared.answer.Ran.the-variants as ran
 use Rattle.route.specs.declared.answer.Located.{Located}
 use Rattle.route.specs.declared.answer.Located.the-variants as located
-use Rattle.route.specs.declared.part.Part.{Part}
 
 -- The length and the count of shortest routes of a task.
 abbrev pub lengthOf : List ℕ → ℕ
@@ -50,16 +49,16 @@ moveAnswer t r i = do
   check (not (ltb i (lengthOf t))) 5
   answer (moveAt (taskRoute t r) i)
 
--- What an answer of Move says too: the part (02, CR 1).
-abbrev pub partReply : Moving → Reply Part
-partReply (moving.Move m a) = answer a
+-- What an answer of Move says too: the letter of its part (02, CR 1).
+abbrev pub partReply : Moving → Reply ℕ
+partReply (moving.Move m a) = answer (partLetter a)
 partReply (moving.Refused r) = refused (number r)
 
 -- The part of the same move; refused as the move is.
-unfoldable pub partAnswer : List ℕ → ℕ → ℕ → Reply Part
+unfoldable pub partAnswer : List ℕ → ℕ → ℕ → Reply ℕ
 partAnswer t r i = do
   moveAnswer t r i
-  answer (partAt (partsOf (start t) (goal t) r) i)
+  answer (partLetter (partAt (partsOf (start t) (goal t) r) i))
 
 -- Place: task faults; 4; 5, the index is above the length; 6, the buffer is below n bytes.
 unfoldable pub placeAnswer : List ℕ → ℕ → ℕ → List ℕ → Check
@@ -72,7 +71,7 @@ placeAnswer t r i out = do
 unfoldable pub placeWrites : List ℕ → ℕ → ℕ → List ℕ → List ℕ
 placeWrites t r i out = written (do placeAnswer t r i out; answer (after (start t) (take i (taskRoute t r)))) out
 
--- What an answer of Run says: how many moves.
+-- What an answer of Run or Parts says: how many moves.
 abbrev pub runReply : Ran → Reply ℕ
 runReply (ran.Moves k) = answer k
 runReply (ran.Refused r) = refused (number r)

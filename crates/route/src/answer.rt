@@ -1,4 +1,4 @@
-// What Move, Place, Run and Locate answer.
+// What Move, Run, Parts and Locate answer.
 use crate::part::Part;
 use board::Refusal;
 

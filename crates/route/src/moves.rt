@@ -5,7 +5,7 @@ ghost use Rattle.board.specs.Reply.{answer};
 ghost use Rattle.plan.specs.Plan.{planOf, routes, shortest};
 ghost use Rattle.plan.specs.Inner.Sound.{Ends};
 ghost use Rattle.route.specs.Answer.{moveReply, moveAnswer, partReply, partAnswer};
-ghost use Rattle.route.specs.Part.{partsOf, partAt};
+ghost use Rattle.route.specs.Part.{partLetter, partsOf, partAt};
 ghost use Rattle.route.specs.Route.{routeOf, moveAt};
 use crate::answer::Moving;
 use crate::course::Course;
@@ -21,7 +21,7 @@ fn route_move(start: &[u8], goal: &[u8], p: Plan, route: u64, index: u64) -> Mov
     requires { ⌜ p ≡ planOf (now start) (now goal) ⌝ }
     requires { ⌜ (route < routes p) × (index < shortest p) ⌝ }
     ensures { λ r. ⌜ moveReply r ≡ answer (moveAt (routeOf (now (start .entry)) (now (goal .entry)) route) index) ⌝ }
-    ensures { λ r. ⌜ partReply r ≡ answer (partAt (partsOf (now (start .entry)) (now (goal .entry)) route) index) ⌝ }
+    ensures { λ r. ⌜ partReply r ≡ answer (partLetter (partAt (partsOf (now (start .entry)) (now (goal .entry)) route) index)) ⌝ }
 {
     let c = Course::of(start, goal, p, route);
     let at = c.stage(index);

@@ -1,10 +1,10 @@
 // The part behind each move, by Move and by Parts, compared with the disc that moves.
 use crate::tally::MANY;
+use parts::Ran;
 use route::Moving;
-use run::Ran;
 
-// How far a route is, told by its discs: the largest that changes its peg has not moved; it has just moved for the first time; others move
-// until it moves again; it moves no more; or the letters do not say so.
+// How far a route is: the largest disc that changes its peg has not moved; it has just moved for the first time; others move until it
+// moves again; it moves no more; or the letters do not fit the discs.
 enum Phase {
     Before,
     Crossed,
@@ -14,7 +14,7 @@ enum Phase {
 }
 
 // The largest disc, counted from 1, whose pegs differ in two positions, or 0 where they are alike.
-pub fn largest(start: usize, goal: usize, n: usize) -> usize {
+pub fn largest_moving(start: usize, goal: usize, n: usize) -> usize {
     let mut one = start;
     let mut other = goal;
     let mut found = 0;
@@ -62,15 +62,27 @@ fn after_other(phase: Phase, letter: u8) -> Phase {
     }
 }
 
-// The phase after the move that Move answers for an index, where its part has the letter that Parts wrote.
-fn moved(phase: Phase, task: &[u8], route: u64, index: u64, m: usize, letter: u8) -> Phase {
+// The letter that Parts writes into one byte for the move at an index, or 0 where it does not write one.
+fn letter_at(task: &[u8], route: u64, index: u64) -> u8 {
+    let mut one = [0u8; 1];
+    match parts::parts(task, route, index, &mut one) {
+        Ran::Moves(_) => one[0],
+        Ran::Refused(_) => 0,
+    }
+}
+
+// The phase after the move that Move answers for an index, where its part has a letter, and Parts writes the same from there.
+fn moved(phase: Phase, task: &[u8], route: u64, index: u64, largest: usize, letter: u8) -> Phase {
     match route::move_at(task, route, index) {
         Moving::Refused(_) => Phase::Wrong,
         Moving::Move(step, part) => {
             if part.letter() != letter {
                 return Phase::Wrong;
             }
-            if step.disc == m {
+            if letter_at(task, route, index) != letter {
+                return Phase::Wrong;
+            }
+            if step.disc == largest {
                 after_crossing(phase, letter)
             } else {
                 after_other(phase, letter)
@@ -99,14 +111,14 @@ fn written(task: &[u8], route: u64, letters: &mut [u8; 64]) -> u64 {
 }
 
 // Whether so many letters, at most 63, are those of a route's discs, and the byte after them stays.
-fn are_parts(task: &[u8], route: u64, m: usize, moves: usize, letters: &[u8; 64]) -> bool {
+fn are_parts(task: &[u8], route: u64, largest: usize, moves: usize, letters: &[u8; 64]) -> bool {
     if 63 < moves {
         return false;
     }
     let mut phase = Phase::Before;
     let mut i = 0;
     while i < moves {
-        phase = moved(phase, task, route, i as u64, m, letters[i]);
+        phase = moved(phase, task, route, i as u64, largest, letters[i]);
         i += 1;
     }
     if letters[moves] != 0 {
@@ -116,10 +128,10 @@ fn are_parts(task: &[u8], route: u64, m: usize, moves: usize, letters: &[u8; 64]
 }
 
 // Whether Parts writes as many letters as a route has moves, and they are those of its discs.
-pub fn is_parted(task: &[u8], route: u64, m: usize, distance: u64) -> bool {
+pub fn is_parted(task: &[u8], route: u64, largest: usize, distance: u64) -> bool {
     let mut letters = [0u8; 64];
     if written(task, route, &mut letters) != distance {
         return false;
     }
-    are_parts(task, route, m, distance as usize, &letters)
+    are_parts(task, route, largest, distance as usize, &letters)
 }

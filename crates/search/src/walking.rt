@@ -1,6 +1,6 @@
-// Walks along the routes of a task: Move, Place and Run compared with the legal moves.
+// Walks along the routes of a task: Move, Place and Run compared with the legal moves, and how many routes are right.
 use crate::parting::is_parted;
-use crate::parting::largest;
+use crate::parting::largest_moving;
 use crate::position::NONE;
 use crate::position::after;
 use crate::position::are_pegs;
@@ -120,7 +120,7 @@ pub fn right_routes(
     distance: u64,
     lists: u64,
 ) -> Right {
-    let m = largest(start, goal, n);
+    let largest = largest_moving(start, goal, n);
     let mut right = Right {
         routes: 0,
         parts: 0,
@@ -129,7 +129,7 @@ pub fn right_routes(
     while r < lists {
         right = right.with(
             is_right(task, r, n, start, goal, distance),
-            is_parted(task, r, m, distance),
+            is_parted(task, r, largest, distance),
         );
         r += 1;
     }

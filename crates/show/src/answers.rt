@@ -1,4 +1,4 @@
-// The answers of Gather, Plan, Move, Place, Run and Locate.
+// The answers of Gather, Plan, Move, Place, Run, Parts and Locate.
 use crate::words::digits;
 use crate::words::named;
 use crate::words::number;
@@ -14,7 +14,6 @@ use plan::Way;
 use route::DiscMove;
 use route::Located;
 use route::Moving;
-use route::Part;
 use route::Ran;
 
 pub fn gathered(answer: Gathered) {
@@ -60,22 +59,12 @@ fn disc_move(m: DiscMove) {
     peg(m.to);
 }
 
-// A part's letter.
-fn part(of: Part) {
-    match of {
-        Part::Gather => text(b" G"),
-        Part::Cross => text(b" X"),
-        Part::Shift => text(b" T"),
-        Part::Spread => text(b" S"),
-    }
-}
-
 // Move's answer: the disc, its pegs and the part.
 pub fn moving(answer: Moving) {
     match answer {
-        Moving::Move(m, behind) => {
+        Moving::Move(m, part) => {
             disc_move(m);
-            part(behind);
+            text(&[b' ', part.letter()]);
         }
         Moving::Refused(why) => refused(why),
     }

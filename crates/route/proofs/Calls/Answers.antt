@@ -1,5 +1,5 @@
 -- What Move, Place, Run and Locate answer to a call without faults, and what an answer says of its call.
-use Prim.Native.Nat.{ℕ, suc, _+_, _-_, _*_, _/_, _≤_, _<_, min}
+use Prim.Native.Nat.{ℕ, suc, _-_, _*_, _/_, _≤_, _<_, min}
 use mathlib.Core.Bool.{not}
 use mathlib.Core.List.{List, _++_, map}
 use mathlib.Core.Path.{_≡_, _∙_, refl, sym, ap}
@@ -19,7 +19,7 @@ use Rattle.board.proofs.Tasks.{SoundTask, task-accepted}
 use Rattle.route.specs.Answer.{lengthOf, taskRoute, routeCheck, moveAnswer, partAnswer, placeAnswer, placeWrites, runAnswer, runWrites, letters, Where, on, off, locatedAt, locateAnswer}
 use Rattle.route.specs.Inner.Open.{listCheck}
 use Rattle.route.specs.Ours.{readMoves}
-use Rattle.route.specs.Part.{partsOf, partAt}
+use Rattle.route.specs.Part.{partLetter, partsOf, partAt}
 use Rattle.route.specs.Route.{plain, moveAt, after}
 use Rattle.route.specs.declared.answer.DiscMove.{DiscMove}
 use Rattle.route.proofs.Calls.Lists.{list-first, list-passed, list-passes}
@@ -117,7 +117,7 @@ module _ (t : List ℕ) (r : ℕ) (routed : Routed t r) where
   move-accepts i l = rw (route-passes t r (routed .accepted) (routed .known), lt-ltb i (lengthOf t) l)
 
   -- And its part.
-  pub part-accepts : (i : ℕ) → i < lengthOf t → partAnswer t r i ≡ answer (partAt (partsOf (start t) (goal t) r) i)
+  pub part-accepts : (i : ℕ) → i < lengthOf t → partAnswer t r i ≡ answer (partLetter (partAt (partsOf (start t) (goal t) r) i))
   unfolding partAnswer
   part-accepts i l = rw (move-accepts i l)
 
@@ -170,7 +170,7 @@ module _ (t : List ℕ) (r : ℕ) (routed : Routed t r) where
       )
 
 -- Bytes written over the first of a buffer leave its size.
-joined-size : (a out : List ℕ) (n : ℕ) → length a ≡ n → n ≤ length out → length (a ++ drop n out) ≡ length out
+pub joined-size : (a out : List ℕ) (n : ℕ) → length a ≡ n → n ≤ length out → length (a ++ drop n out) ≡ length out
 joined-size a out n e room = omega (arith, length-append a (drop n out), length-drop n out)
 
 -- What is accepted and written, of a Place.

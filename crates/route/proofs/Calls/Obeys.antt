@@ -16,7 +16,7 @@ use Rattle.board.proofs.Replies.{then-refused}
 use Rattle.board.proofs.Tasks.{task-obeys}
 use Rattle.route.specs.Answer.{lengthOf, moveAnswer, partAnswer, placeAnswer, placeWrites, runAnswer, runWrites, locateAnswer}
 use Rattle.route.specs.Faults.{moveFaults, placeFaults, runFaults, locateFaults}
-use Rattle.route.specs.Part.{partsOf, partAt}
+use Rattle.route.specs.Part.{partLetter, partsOf, partAt}
 use Rattle.route.proofs.Calls.Lists.{below, list-answer-obeys}
 use Rattle.route.proofs.Calls.Opened.{route-obeys}
 
@@ -39,7 +39,7 @@ part-obeys t r i =
     let move = move-obeys t r i in
     record {
       refuses = λ k. ((λ e. move .refuses k .0 (then-refused (moveAnswer t r i) _ e)), λ f. rw (move .refuses k .1 f));
-      answers = λ none. let (m, e) = move .answers none in (partAt (partsOf (start t) (goal t) r) i, rw e);
+      answers = λ none. let (m, e) = move .answers none in (partLetter (partAt (partsOf (start t) (goal t) r) i), rw e);
     }
 
 pub place-obeys : (t : List ℕ) (r i : ℕ) (out : List ℕ) → Obeys (placeFaults t r i out) (placeAnswer t r i out)

@@ -1,4 +1,4 @@
--- What Move, Place and Run know once the task faults and the route number are passed.
+-- What Move, Place, Run and Parts know once the task faults and the route number are passed.
 use Prim.Native.Nat.{ℕ, _<_}
 use mathlib.Core.Bool.{not}
 use mathlib.Core.List.{List}

@@ -1,11 +1,8 @@
 -- `parts::course::write_course` meets its contract: stretch by stretch, the letters of the course. Assumes nothing.
-use Prim.Native.Nat.{ℕ, _-_}
-use mathlib.Core.Path.{_≡_}
-use native.Mathlib.Omega.{arith}
+use Prim.Native.Nat.{ℕ}
 use mathlib.Core.List.{List, [], _++_}
 use borrow.Author.Needs.{needs}
 use lib.ListN.{replicate}
-use Rattle.parts.specs.Inner.Course.{spreadsFrom}
 use Rattle.parts.proofs.Letters.{course-written}
 use Rattle.parts.specs.declared.pen.Pen.{Pen}
 use Rattle.parts.proofs.Pens.{Penned, penned-none, penned-room, penned-after}
@@ -18,59 +15,48 @@ shift-requires c κs = search needs
 second-requires : tie.Need-second-requires
 second-requires c κs = search needs
 
-sub-spread : tie.Need-sub-spread
-sub-spread c = search needs
-
-sub-spread-2 : tie.Need-sub-spread-2
-sub-spread-2 c = search needs
-
-sub-spread-3 : tie.Need-sub-spread-3
-sub-spread-3 c = search needs
-
-sub-spread-4 : tie.Need-sub-spread-4
-sub-spread-4 c = search needs
+left-requires : tie.Need-left-requires
+left-requires c κs =
+    rw (c .before .shift .ensures, c .second .ensures) (c .before .before .before .pre .1)
 
 stretch-requires : tie.Need-stretch-requires
 stretch-requires c κs = search needs
 
 -- Where the counts of all stretches are known, seen from behind each stretch.
-abbrev counts : tie.After-stretch → tie.After-second
-counts c = c .before .before .before
+abbrev counts : tie.After-stretch → tie.After-left
+counts c = c .before .before
 
-abbrev counts2 : tie.After-stretch2 → tie.After-second
+abbrev counts2 : tie.After-stretch2 → tie.After-left
 counts2 c = counts (c .before .before .before .before)
 
-abbrev counts3 : tie.After-stretch3 → tie.After-second
+abbrev counts3 : tie.After-stretch3 → tie.After-left
 counts3 c = counts2 (c .before .before .before .before)
 
-abbrev counts4 : tie.After-stretch4 → tie.After-second
+abbrev counts4 : tie.After-stretch4 → tie.After-left
 counts4 c = counts3 (c .before .before .before .before)
 
-abbrev counts5 : tie.After-stretch5 → tie.After-second
+abbrev counts5 : tie.After-stretch5 → tie.After-left
 counts5 c = counts4 (c .before .before .before .before)
 
 -- The letters of the stretches, one after another.
-abbrev gathers : tie.After-second → List ℕ
-gathers c = [] ++ replicate (c .before .before .before .args .course .first) 71
+abbrev gathers : tie.After-left → List ℕ
+gathers c = [] ++ replicate (c .before .before .before .before .args .course .first) 71
 
-abbrev crosses : tie.After-second → List ℕ
+abbrev crosses : tie.After-left → List ℕ
 crosses c = gathers c ++ replicate 1 88
 
-abbrev shifts : tie.After-second → List ℕ
-shifts c = crosses c ++ replicate (c .before .shift .result) 84
+abbrev shifts : tie.After-left → List ℕ
+shifts c = crosses c ++ replicate (c .before .before .shift .result) 84
 
-abbrev recrosses : tie.After-second → List ℕ
-recrosses c = shifts c ++ replicate (c .second .result) 88
+abbrev recrosses : tie.After-left → List ℕ
+recrosses c = shifts c ++ replicate (c .before .second .result) 88
 
-abbrev left : tie.After-second → ℕ
-left c = let args = c .before .before .before .args in args .moves - args .course .first - 1 - c .before .shift .result - c .second .result
-
-abbrev spreads : tie.After-second → List ℕ
-spreads c = recrosses c ++ replicate (left c) 83
+abbrev spreads : tie.After-left → List ℕ
+spreads c = recrosses c ++ replicate (c .left .result) 83
 
 -- The buffer has the letters so far.
-abbrev Wrote : tie.After-second → List ℕ → Pen → List ℕ → Type 0
-Wrote c letters pen out = let args = c .before .before .before .args in Penned (args .first) letters (args .out .now) pen out
+abbrev Wrote : tie.After-left → List ℕ → Pen → List ℕ → Type 0
+Wrote c letters pen out = let args = c .before .before .before .before .args in Penned (args .first) letters (args .out .now) pen out
 
 gathered : (c : tie.After-stretch) → Wrote (counts c) (gathers (counts c)) (c .stretch .result) (c .stretch .last .1 .1 .1 .0)
 gathered c = penned-after (penned-none _ _) _ _ (c .stretch .ensures .0) (c .stretch .ensures .1)
@@ -106,10 +92,9 @@ same-length c = search needs
 returns : tie.Need-returns
 returns c =
     let at = counts5 (c .before .before) in
-    let args = at .before .before .before .args in
-    let rest : left at ≡ args .moves - spreadsFrom (args .course) = omega (arith, at .before .shift .ensures, at .second .ensures) in
-    course-written (args .course) (args .moves) (args .first) (args .out .now) (at .before .before .before .pre .1)
-    (at .before .shift .ensures) (at .second .ensures) rest (all (c .before .before))
+    let args = at .before .before .before .before .args in
+    course-written (args .course) (args .moves) (args .first) (args .out .now) (at .before .before .before .before .pre .1)
+    (at .before .before .shift .ensures) (at .before .second .ensures) (at .left .ensures) (all (c .before .before))
 
 pub write-course-spec : {M : Type 1} → statement M
 write-course-spec =
@@ -117,10 +102,7 @@ write-course-spec =
     (tie.spec
     shift-requires
     second-requires
-    sub-spread
-    sub-spread-2
-    sub-spread-3
-    sub-spread-4
+    left-requires
     stretch-requires
     stretch-requires-2
     stretch-requires-3

@@ -1,11 +1,12 @@
 -- `route::moves::route_move` meets its contract: the move and its part are those of the stage of the index. Assumes nothing.
 use Prim.Native.Nat.{_<_}
-use mathlib.Core.Path.{_∙_, sym, ap}
+use mathlib.Core.Path.{_≡_, _∙_, sym, ap}
 use native.Mathlib.Omega.{arith}
 use borrow.Author.Needs.{needs}
 use Rattle.board.specs.Reply.{answer}
 use Rattle.plan.specs.Plan.{planOf, shortest}
 use Rattle.route.specs.Inner.Stage.{CourseFits}
+use Rattle.route.specs.Part.{partsOf, partAt}
 use Rattle.route.proofs.Courses.Plan.{course-fits}
 use Rattle.plan.proofs.Sound.{ends-fit}
 use Rattle.route.proofs.Courses.Found.{route-entry, moves-some, stage-fits}
@@ -48,11 +49,14 @@ part-requires c κs = search needs
 returns : tie.Need-returns
 returns c =
     let start = c .before .before .before .before .before .before in
-    let known = rw (start .pre .1 .0) at (start .pre .1 .1 .0) in (
+    let args = start .args in
+    let known = rw (start .pre .1 .0) at (start .pre .1 .1 .0) in
+    let part : c .part .result ≡ partAt (partsOf (args .start .now) (args .goal .now) (args .route)) (args .index) =
+    c .part .ensures
+    ∙ rw (c .before .before .stage .ensures, c .before .before .before .of .ensures) (sym (route-part _ _ (start .pre .0) _ _ known (below start))) in (
       ap answer (c .before .stage-move .ensures
           ∙ rw (c .before .before .stage .ensures, c .before .before .before .of .ensures) (sym (route-entry _ _ (start .pre .0) _ _ (below start)))),
-      ap answer (c .part .ensures
-          ∙ rw (c .before .before .stage .ensures, c .before .before .before .of .ensures) (sym (route-part _ _ (start .pre .0) _ _ known (below start)))),
+      rw part,
     )
 
 pub route-move-spec : {M : Type 1} → statement M

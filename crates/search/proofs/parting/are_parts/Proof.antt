@@ -6,10 +6,10 @@ use Rattle.search.proofs.parting.are_parts.Statement.{statement}
 use Rattle.search.proofs.parting.are_parts.Tie as tie
 
 abbrev Inv-loop : tie.InvT-loop
-Inv-loop task route m moves letters phase₀ i₀ phase i = i ≤ moves
+Inv-loop task route largest moves letters phase₀ i₀ phase i = i ≤ moves
 
 abbrev μ-loop : tie.MeasureT-loop
-μ-loop task route m moves letters phase₀ i₀ phase i = moves - i
+μ-loop task route largest moves letters phase₀ i₀ phase i = moves - i
 
 returns : tie.Need-returns Inv-loop μ-loop
 returns c = search needs

@@ -6,13 +6,13 @@ use Rattle.search.proofs.walking.right_routes.Statement.{statement}
 use Rattle.search.proofs.walking.right_routes.Tie as tie
 
 abbrev Inv-loop : tie.InvT-loop
-Inv-loop task n start goal distance lists m right₀ r₀ right r = r ≤ lists
+Inv-loop task n start goal distance lists largest right₀ r₀ right r = r ≤ lists
 
 abbrev μ-loop : tie.MeasureT-loop
-μ-loop task n start goal distance lists m right₀ r₀ right r = lists - r
+μ-loop task n start goal distance lists largest right₀ r₀ right r = lists - r
 
-largest-requires : tie.Need-largest-requires Inv-loop μ-loop
-largest-requires c κs = search needs
+largest-moving-requires : tie.Need-largest-moving-requires Inv-loop μ-loop
+largest-moving-requires c κs = search needs
 
 loop-holds : tie.Need-loop-holds Inv-loop μ-loop
 loop-holds c = search needs
@@ -44,7 +44,7 @@ right-routes-spec =
     (tie.spec
     Inv-loop
     μ-loop
-    largest-requires
+    largest-moving-requires
     loop-holds
     is-right-requires
     is-parted-requires

@@ -1,9 +1,9 @@
--- `search::parting::largest` is safe and ends. The loop's invariant: `d` is at most the number of discs. The measure is how many are left.
+-- `search::parting::largest_moving` is safe and ends. The loop's invariant: `d` is at most the number of discs. The measure is how many are left.
 -- Assumes nothing.
 use Prim.Native.Nat.{_≤_, _-_}
 use borrow.Author.Needs.{needs}
-use Rattle.search.proofs.parting.largest.Statement.{statement}
-use Rattle.search.proofs.parting.largest.Tie as tie
+use Rattle.search.proofs.parting.largest_moving.Statement.{statement}
+use Rattle.search.proofs.parting.largest_moving.Tie as tie
 
 abbrev Inv-loop : tie.InvT-loop
 Inv-loop start goal n one₀ other₀ found₀ d₀ one other found d = d ≤ n
@@ -29,6 +29,6 @@ loop-again c = search needs
 returns : tie.Need-returns Inv-loop μ-loop
 returns c = search needs
 
-pub largest-spec : {M : Type 1} → statement M
-largest-spec =
+pub largest-moving-spec : {M : Type 1} → statement M
+largest-moving-spec =
     tie.close (tie.spec Inv-loop μ-loop loop-holds add-found add-d loop-less loop-again returns)
