@@ -11,8 +11,8 @@
 //   counts   the pairs for which Plan's number of routes is the number of shortest lists
 //   routes   the routes that end at the goal, with each Move legal, Place at each index the position reached and nothing after it, and Run
 //            writing the same moves
-//   parts    the routes whose letters, by Move and by Parts alike, are G before the largest disc that changes its peg moves, X where it
-//            moves, T between two such moves, and S after the last
+//   parts    the routes whose letters, by Move and by Parts alike, from the start and from each index, are G before the largest disc that
+//            changes its peg moves, X where it moves, T between two such moves, and S after the last
 //   moves    the moves of all of those pairs' shortest lists, by the search
 //   located  the triples of a start, a goal and a position q for which Locate answers as the distances say: where those by way of q add up
 //            to that of the goal, the distance of q as the index and the lowest route on which Place has q there, and else Off
