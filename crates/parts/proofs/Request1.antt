@@ -5,10 +5,10 @@ use mathlib.Core.Path.{refl}
 use native.Mathlib.Omega.{arith}
 use lib.ListN.{length}
 use Rattle.board.specs.Fault.{Faultless, taskFaults}
-use Rattle.board.proofs.Tasks.{task-accepted, faultless-accepted}
+use Rattle.board.proofs.Tasks.{faultless-accepted}
 use Rattle.route.specs.Answer.{lengthOf}
 use Rattle.route.proofs.Annotated.{letters-part, annotated}
-use Rattle.route.proofs.Calls.Opened.{Routed}
+use Rattle.route.proofs.Calls.Opened.{Routed, accepted-routed}
 use Rattle.parts.specs.Request1.{Letters, Request1}
 use Rattle.parts.proofs.Calls.{parts-accepts, parts-answered}
 
@@ -30,6 +30,5 @@ request-1 t clear =
     let accepted = faultless-accepted t clear in
     record {
       annotated = annotated t clear;
-      letters = λ r i out known index room.
-          letters t r (record { accepted = accepted; sound = task-accepted t accepted; known = known }) i out index room;
+      letters = λ r i out known index room. letters t r (accepted-routed t accepted r known) i out index room;
     }

@@ -13,7 +13,7 @@ use Rattle.board.specs.Position.{peg}
 use Rattle.board.specs.Reply.{pass}
 use Rattle.board.specs.Task.{start, goal, taskCheck}
 use Rattle.board.proofs.Lists.{map-replicate}
-use Rattle.board.proofs.Tasks.{task-accepted, faultless-accepted}
+use Rattle.board.proofs.Tasks.{faultless-accepted}
 use Rattle.plan.specs.Gather.{gather}
 use Rattle.plan.specs.Inner.Sound.{Ends}
 use Rattle.plan.specs.Plan.{planOf}
@@ -30,7 +30,7 @@ use Rattle.route.specs.Route.{moveAt}
 use Rattle.route.specs.declared.part.Part.{Part}
 use Rattle.route.specs.declared.part.Part.the-variants.{Gather, Cross, Shift, Spread}
 use Rattle.route.proofs.Calls.Answers.{route-length, move-accepts, part-accepts}
-use Rattle.route.proofs.Calls.Opened.{Routed}
+use Rattle.route.proofs.Calls.Opened.{Routed, accepted-routed}
 use Rattle.route.proofs.Courses.Found.{plan-disc}
 use Rattle.route.proofs.Courses.Plan.{plan-pegs}
 use Rattle.route.proofs.Shortest.View.{none, some, largest-view, plan-still}
@@ -117,7 +117,7 @@ module _ (t : List ℕ) (r : ℕ) (routed : Routed t r) where
 module _ (t : List ℕ) (accepted : taskCheck t ≡ pass) where
   -- Each route below the count is one.
   routed : (r : ℕ) → r < countOf t → Routed t r
-  routed r known = record { accepted = accepted; sound = task-accepted t accepted; known = known }
+  routed = accepted-routed t accepted
 
   abbrev plan : Plan
   plan = planOf (start t) (goal t)

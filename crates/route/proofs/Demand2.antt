@@ -17,7 +17,7 @@ use Rattle.route.specs.Demand2.{firstMoves, Moves, Places, Runs, Reached
 use Rattle.route.specs.Route.{moveAt, after}
 use Rattle.route.proofs.Calls.Answers.{route-length, move-accepts, move-disc, place-leads, place-size, place-accepts, place-answered, run-accepts, run-answered, run-reads, run-stays, locate-accepts, place-located}
 use Rattle.route.proofs.Calls.Locating.{OnLowest, located-exactly, located-sum}
-use Rattle.route.proofs.Calls.Opened.{Routed}
+use Rattle.route.proofs.Calls.Opened.{Routed, accepted-routed}
 use Rattle.route.proofs.Shortest.Routes.{route-leads}
 use Rattle.route.proofs.Shortest.Ways.{plan-ways, plan-numbered}
 
@@ -30,7 +30,7 @@ module _ (t : List ℕ) (accepted : taskCheck t ≡ pass) where
 
   -- Each route below the count is one.
   routed : (r : ℕ) → r < countOf t → Routed t r
-  routed r known = record { accepted = accepted; sound = sound; known = known }
+  routed = accepted-routed t accepted
 
   moves : (r i : ℕ) → r < countOf t → i < lengthOf t → Moves t r i
   moves r i known index =

@@ -23,6 +23,10 @@ pub record Routed (t : List ℕ) (r : ℕ) : Type 0 where
   pub sound : SoundTask t
   pub known : r < countOf t
 
+-- Of a task that is accepted, each number below the count is a route's.
+pub accepted-routed : (t : List ℕ) → taskCheck t ≡ pass → (r : ℕ) → r < countOf t → Routed t r
+accepted-routed t accepted r known = record { accepted = accepted; sound = task-accepted t accepted; known = known }
+
 -- Where the checks pass, there is such.
 pub route-passed : (t : List ℕ) (r : ℕ) → routeCheck t r ≡ pass → Routed t r
 unfolding routeCheck
