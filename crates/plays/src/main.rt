@@ -1,6 +1,7 @@
-// Sessions played through Begin, Play and Report (document 01): a line for each fact.
+// Sessions played through Begin, Play and Report (documents 01 and 02): a line for each fact.
 mod boards;
 mod damage;
+mod excess;
 mod limit;
 mod same;
 mod say;
@@ -10,6 +11,7 @@ mod whole;
 fn main() {
     boards::marks();
     whole::route();
+    excess::reports();
     tasks::verdicts();
     damage::records();
     limit::plays();

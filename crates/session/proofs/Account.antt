@@ -1,5 +1,5 @@
--- The account of a session, in the record and in the tally alike: its tests pass exactly where it is one, it holds at first, and a play that
--- changes the fewest by at most one keeps it. It knows the fewest as two numbers, and nothing of pegs and discs.
+-- The account of a session, in the record and in the tally alike: its tests pass exactly where it is one, it holds at first, a play that
+-- changes the fewest by at most one keeps it, and what its excess is. It knows the fewest as two numbers, and nothing of pegs and discs.
 use Prim.Native.Nat.{ℕ, _+_, _≤_}
 use mathlib.Core.Bool.{true, _&&_, and-eq-true-iff}
 use mathlib.Core.Logic.{_≢_, _↔_}
@@ -7,7 +7,7 @@ use mathlib.Core.Path.{_≡_, refl}
 use native.Mathlib.Omega.{arith}
 use borrow.Author.Tests.{eqb-true, eq-eqb, leb-true, le-leb}
 use lib.Dec.{eqb, leb}
-use Rattle.session.specs.Counts.{playLimit, noPlays, markOf, counted, countsAgree, marksAgree, Account}
+use Rattle.session.specs.Counts.{playLimit, noPlays, markOf, counted, countsAgree, marksAgree, Account, excessOf, Excess}
 use Rattle.session.specs.declared.counting.Counts.{Counts}
 use Rattle.session.proofs.Marks.{mark-one, mark-balance}
 
@@ -52,3 +52,7 @@ account-played {now = now} {after = after} further nearer more a =
     let one = mark-one (markOf now after) in
     let balance = mark-balance now after further nearer in
     record { sum = omega arith; within = omega arith; marks = omega arith }
+
+-- Its excess: made is toward + level + away, and the fewest at the start less the fewest now is toward − away, which leaves level + 2 × away.
+pub account-excess : {c : Counts} {now first : ℕ} → Account c now first → Excess (excessOf c now first) c now first
+account-excess a = record { rule = omega arith; wasted = omega arith; arrived = λ none. (omega arith, omega arith) }

@@ -15,11 +15,13 @@ use Rattle.board.proofs.Replies.{then-answered, check-answered}
 use Rattle.board.proofs.Tasks.{faultless-accepted, task-obeys}
 use Rattle.session.specs.Answer.{opened, beginAnswer, noSession, sessionOr, playCheck, moveMark, playAnswer, playedRecord, playLeaves, reportAnswer}
 use Rattle.session.specs.Counts.{playLimit, figuresOf}
+use Rattle.session.specs.Demand3.{Reports}
 use Rattle.session.specs.Faults.{playFaults, reportFaults}
 use Rattle.session.specs.Record.{currentOf, firstOf, nowOf, positionsHeld, sound, Sound}
 use Rattle.session.specs.declared.counting.Figures.{Figures}
 use Rattle.session.specs.declared.counting.Mark.{Mark}
 use Rattle.session.specs.declared.record.Session.{Session}
+use Rattle.session.proofs.Account.{account-excess}
 use Rattle.session.proofs.Soundness.{sound-record, record-sound}
 
 -- The test fails exactly where the record is not sound.
@@ -123,3 +125,8 @@ unfolding reportAnswer
 report-answered s {f} e =
     let (sounds, same) = check-answered (not (sound s)) 10 _ e in
     (sound-record s (not-false (sound s) sounds), cc)
+
+-- What Report says of every sound record: its counts, what remains, and the excess with all that holds of it.
+pub sound-reports : (s : Session) → Sound s → Reports s (s .counts) (nowOf s) (firstOf s)
+sound-reports s sounds =
+    record { figures = _; answered = report-accepts s sounds; counts = refl; remaining = refl; excess = account-excess (sounds .account) }

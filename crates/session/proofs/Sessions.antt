@@ -11,9 +11,9 @@ use Rattle.board.specs.Task.{start, goal, taskCheck}
 use Rattle.board.proofs.Replies.{then-answered}
 use Rattle.board.proofs.Tasks.{SoundTask, task-accepted}
 use Rattle.plan.proofs.OneMove.{moved-further, moved-nearer}
-use Rattle.session.specs.Answer.{opened, beginAnswer, reportAnswer}
-use Rattle.session.specs.Counts.{counted, figuresOf}
-use Rattle.session.specs.Demand3.{Says, Accounted}
+use Rattle.session.specs.Answer.{opened, beginAnswer}
+use Rattle.session.specs.Counts.{counted}
+use Rattle.session.specs.Demand3.{Says, Reports, Accounted}
 use Rattle.session.specs.Record.{currentOf}
 use Rattle.session.specs.Sessions.{recordReply, recordNext, recordReplies, recordAfter, replyAt, Play, withPlay, acceptedPlays, countMarks}
 use Rattle.session.specs.Tally.{Call, play, report, marked, reports, Tally, fresh, tallyCheck, tallyMark, playedTally, tallyOr, tallied, tallyReply, tallyReplies, tallyAfter}
@@ -22,7 +22,9 @@ use Rattle.session.specs.declared.counting.Mark.{Mark}
 use Rattle.session.specs.declared.counting.Mark.the-variants.{Toward, Level, Away}
 use Rattle.session.specs.declared.record.Session.{Session}
 use Rattle.session.proofs.Agrees.{Agrees, tally-accepts, agrees-fresh, agrees-sound, agrees-current, agrees-start, agrees-goal, agrees-reply, agrees-next}
+use Rattle.session.proofs.Calls.{sound-reports}
 use Rattle.session.proofs.Marks.{mark-says}
+use Rattle.session.proofs.Soundness.{sound-record}
 
 module _ (t : List ℕ) (task : SoundTask t) where
   -- Where the record and the tally agree, they reply the same to every list of calls.
@@ -110,16 +112,11 @@ module _ (t : List ℕ) (task : SoundTask t) where
       let marks : tallyMark t y m ≡ k = cc in
       rw (agrees-current t task y s a, stands, ← marks) says
 
-  -- After any list of calls a report is answered: the counts, what remains from where the record stands, and the excess.
-  report-after : (cs : List Call) →
-      let s = recordAfter (opened t) cs in
-      reportAnswer s ≡ answer (figuresOf (s .counts) (fewest (currentOf s) (goal t)) (fewest (start t) (goal t)))
-  unfolding reportAnswer
-  report-after cs =
-      let a = agrees-after t task (fresh t) (opened t) (agrees-fresh t task) cs in
-      let y = tallyAfter t (fresh t) cs in
-      let s = recordAfter (opened t) cs in
-      rw (agrees-sound t task y s a, agrees-start t task y s a, agrees-goal t task y s a)
+  -- Where the record agrees with a tally, Report says of it what it says of every sound record.
+  agrees-reports : (y : Tally) (s : Session) → Agrees t y s
+      → Reports s (s .counts) (fewest (currentOf s) (goal t)) (fewest (start t) (goal t))
+  agrees-reports y s a =
+      rw (agrees-start t task y s a, agrees-goal t task y s a) at (sound-reports s (sound-record s (agrees-sound t task y s a)))
 
   -- The account of a list of calls on the record that Begin gives.
   accounted : (cs : List Call) → Accounted t (opened t) cs
@@ -137,7 +134,7 @@ module _ (t : List ℕ) (task : SoundTask t) where
             (agrees-after t task (fresh t) (opened t) (agrees-fresh t task) before) m k
             (sym (replies-at (opened t) before (play m) after) ∙ ap (λ (ds : List Call). replyAt (recordReplies (opened t) ds) (length before)) (sym split) ∙ e));
         balance = rw (current, a .held) (a .account .marks);
-        reports = record { figures = _; answered = report-after cs; counts = refl; remaining = refl; excess = refl };
+        reports = agrees-reports (tallyAfter t (fresh t) cs) (recordAfter (opened t) cs) a;
         replies = replies;
         holds = a .held;
       }

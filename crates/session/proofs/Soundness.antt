@@ -1,5 +1,5 @@
 -- A sound record: the test passes exactly where it is one, and what the functions need of it.
-use Prim.Native.Nat.{ℕ, _≤_}
+use Prim.Native.Nat.{ℕ, _+_, _≤_, _<_, _^_}
 use mathlib.Core.Bool.{true, and-eq-true-iff}
 use mathlib.Core.List.{List}
 use mathlib.Core.Logic.{_↔_}
@@ -13,7 +13,8 @@ use Rattle.board.specs.Held.{holdsPosition, HoldsPosition}
 use Rattle.board.specs.Task.{limit}
 use Rattle.board.proofs.Arrays.{holds-exactly, held-formed}
 use Rattle.plan.specs.Inner.Sound.{Ends}
-use Rattle.session.specs.Record.{startOf, goalOf, currentOf, positionsHeld, sound, PositionsHeld, Sound}
+use Rattle.plan.proofs.Sound.{ends-fewest, ends-fit}
+use Rattle.session.specs.Record.{startOf, goalOf, currentOf, firstOf, nowOf, positionsHeld, sound, PositionsHeld, Sound}
 use Rattle.session.specs.declared.record.Session.{Session}
 use Rattle.session.proofs.Account.{account-exactly}
 
@@ -88,3 +89,13 @@ module _ {s : Session} (z : Sized s) (p : PositionsHeld s) where
 
   pub current-length : length (currentOf s) ≡ s .n
   current-length = length-take-le (s .n) (s .current) current-room
+
+-- The plays made and the fewest that remain are never below the fewest at the start (02, CR 2) ..
+pub sound-reaches : {s : Session} → Sound s → firstOf s ≤ s .counts .made + nowOf s
+sound-reaches r = omega (arith, r .account .sum, r .account .marks)
+
+-- .. and their sum fits 64 bits.
+pub sound-fits : {s : Session} → Sized s → Sound s → s .counts .made + nowOf s < 2 ^ 64
+sound-fits z r =
+    let ends = current-ends z (r .positions) in
+    omega (arith, r .account .within, ends-fewest ends, ends-fit ends)

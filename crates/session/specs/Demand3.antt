@@ -1,6 +1,6 @@
 -- Demand 3 (document 01, "What demand 3 speaks of"): nothing is shorter, the shortest lists are our routes, and over any list of calls the
 -- session agrees with the tally. All of it is said of what the calls answer.
-use Prim.Native.Nat.{ℕ, _+_, _-_, _*_, _≤_, _<_}
+use Prim.Native.Nat.{ℕ, _+_, _*_, _≤_, _<_}
 use mathlib.Core.List.{List, [], _∷_, _++_, map}
 use mathlib.Core.Logic.{_≢_, _⊎_, _↔_}
 use mathlib.Core.Path.{_≡_}
@@ -15,6 +15,7 @@ use Rattle.plan.specs.declared.answer.Plan.{Plan}
 use Rattle.route.specs.Answer.{runAnswer, runWrites}
 use Rattle.route.specs.Ours.{ourRoute, readMoves}
 use Rattle.session.specs.Answer.{beginAnswer, reportAnswer}
+use Rattle.session.specs.Counts.{Excess}
 use Rattle.session.specs.Record.{currentOf}
 use Rattle.session.specs.Sessions.{recordReplies, recordAfter, replyAt, Play, acceptedPlays, countMarks, heldBy}
 use Rattle.session.specs.Tally.{Call, play, marked, fresh, tallyReplies, tallyAfter}
@@ -38,13 +39,13 @@ pub record Says (k : Mark) (before after : ℕ) : Type 0 where
   pub level : (k ≡ Level) ↔ (before ≡ after)
   pub away : (k ≡ Away) ↔ (after ≡ before + 1)
 
--- Report answers these counts, the fewest that remain, and the plays made beyond the fewest at the start, 0 where fewer are made.
+-- Report answers these counts, the fewest that remain, and the excess.
 pub record Reports (s : Session) (c : Counts) (now first : ℕ) : Type 0 where
   pub figures : Figures
   pub answered : reportAnswer s ≡ answer figures
   pub counts : figures .counts ≡ c
   pub remaining : figures .remaining ≡ now
-  pub excess : figures .excess ≡ c .made - first
+  pub excess : Excess (figures .excess) c now first
 
 -- A list of calls cs on the record s that Begin gives for the task t.
 pub record Accounted (t : List ℕ) (s : Session) (cs : List Call) : Type 0 where

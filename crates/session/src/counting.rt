@@ -1,7 +1,8 @@
 // The counts of a session, and what a play and a report make of them.
 ghost use mathlib.Core.Bool.{true};
 ghost use mathlib.Core.Path.{_≡_};
-ghost use Rattle.session.specs.Counts.{noPlays, markOf, counted, countsAgree, excessOf};
+ghost use Prim.Native.Nat.{_+_, _<_, _^_};
+ghost use Rattle.session.specs.Counts.{noPlays, markOf, counted, countsAgree, Account, excessOf};
 
 // The plays made, and how many of them were toward, level and away.
 pub struct Counts {
@@ -18,7 +19,7 @@ pub enum Mark {
     Away,
 }
 
-// What a report says: the counts, the fewest moves that remain, and the plays made beyond the fewest.
+// What a report says: the counts, the fewest moves that remain, and the excess.
 pub struct Figures {
     pub counts: Counts,
     pub remaining: u64,
@@ -91,11 +92,12 @@ impl Counts {
         made == self.toward + self.level + self.away
     }
 
-    // The plays made beyond the fewest at the start, 0 where fewer are made.
-    pub fn excess(self, first: u64) -> u64
-        ensures { λ r. ⌜ r ≡ excessOf self first ⌝ }
+    // The plays made and the fewest moves that remain, less the fewest at the start.
+    pub fn excess(self, remaining: u64, first: u64) -> u64
+        requires { ⌜ Account self remaining first ⌝ }
+        requires { ⌜ self .made + remaining < 2 ^ 64 ⌝ }
+        ensures { λ r. ⌜ r ≡ excessOf self remaining first ⌝ }
     {
-        let made = self.made;
-        if made < first { 0 } else { made - first }
+        self.made + remaining - first
     }
 }

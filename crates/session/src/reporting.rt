@@ -30,7 +30,7 @@ fn figures(s: Session) -> Figures
     Figures {
         counts,
         remaining: now,
-        excess: counts.excess(first),
+        excess: counts.excess(now, first),
     }
 }
 

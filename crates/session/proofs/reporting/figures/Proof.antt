@@ -1,7 +1,7 @@
--- `session::reporting::figures` meets its contract: the positions of a sound record are ends. Assumes nothing.
+-- `session::reporting::figures` meets its contract: the positions of a sound record are ends, and its counts an account. Assumes nothing.
 use borrow.Author.Needs.{needs}
-use Rattle.session.specs.Record.{PositionsHeld}
-use Rattle.session.proofs.Soundness.{Sized, sound-record, start-ends, current-ends}
+use Rattle.session.specs.Record.{Sound}
+use Rattle.session.proofs.Soundness.{Sized, sound-record, start-ends, current-ends, sound-fits}
 use Rattle.session.proofs.reporting.figures.Statement.{statement}
 use Rattle.session.proofs.reporting.figures.Tie as tie
 
@@ -9,21 +9,23 @@ use Rattle.session.proofs.reporting.figures.Tie as tie
 sized : (c : tie.Start) → Sized (c .args .s)
 sized c = search needs
 
-positions : (c : tie.Start) → PositionsHeld (c .args .s)
-positions c = sound-record (c .args .s) (c .pre) .positions
+sounds : (c : tie.Start) → Sound (c .args .s)
+sounds c = sound-record (c .args .s) (c .pre)
 
 fewest-held-requires : tie.Need-fewest-held-requires
 fewest-held-requires c κs =
     let at = c .before .before .before .before in
-    (positions at .few, current-ends (sized at) (positions at))
+    (sounds at .positions .few, current-ends (sized at) (sounds at .positions))
 
 fewest-held-requires-2 : tie.Need-fewest-held-requires-2
 fewest-held-requires-2 c κs =
     let at = c .before .before .before .before .before in
-    (positions at .few, start-ends (sized at) (positions at))
+    (sounds at .positions .few, start-ends (sized at) (sounds at .positions))
 
 excess-requires : tie.Need-excess-requires
-excess-requires c κs = search needs
+excess-requires c κs =
+    let at = c .before .before .before .before .before .before in
+    rw (c .fewest-held2 .ensures .0, c .before .fewest-held .ensures .0) (sounds at .account, sound-fits (sized at) (sounds at))
 
 returns : tie.Need-returns
 returns c =
