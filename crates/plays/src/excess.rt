@@ -11,7 +11,7 @@ fn wasted(session: Session) -> Session {
     say::play(say::play(out, 2, 1), 1, 0)
 }
 
-// The record after a move of a task's route 0.
+// The record after the move at an index of a task's route 0.
 fn next(session: Session, task: &[u8], index: u64) -> Session {
     match route::move_at(task, 0, index) {
         Moving::Move(m, _) => {

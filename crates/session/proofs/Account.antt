@@ -1,5 +1,6 @@
 -- The account of a session, in the record and in the tally alike: its tests pass exactly where it is one, it holds at first, a play that
--- changes the fewest by at most one keeps it, and what its excess is. It knows the fewest as two numbers, and nothing of pegs and discs.
+-- changes the fewest by at most one keeps it, and its excess is what its plays wasted. It knows the fewest as two numbers, and nothing of
+-- pegs and discs.
 use Prim.Native.Nat.{ℕ, _+_, _≤_}
 use mathlib.Core.Bool.{true, _&&_, and-eq-true-iff}
 use mathlib.Core.Logic.{_≢_, _↔_}

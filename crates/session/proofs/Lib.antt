@@ -3,8 +3,8 @@ pub mod Marks
 pub mod Account
 pub mod Soundness
 pub mod Agrees
-pub mod Sessions
 pub mod Calls
+pub mod Sessions
 pub mod Demand3
 -- What the code's proofs cite.
 pub mod Records

@@ -16,7 +16,7 @@ use Rattle.session.specs.Counts.{counted}
 use Rattle.session.specs.Demand3.{Says, Reports, Accounted}
 use Rattle.session.specs.Record.{currentOf}
 use Rattle.session.specs.Sessions.{recordReply, recordNext, recordReplies, recordAfter, replyAt, Play, withPlay, acceptedPlays, countMarks}
-use Rattle.session.specs.Tally.{Call, play, report, marked, reports, Tally, fresh, tallyCheck, tallyMark, playedTally, tallyOr, tallied, tallyReply, tallyReplies, tallyAfter}
+use Rattle.session.specs.Tally.{Call, play, report, marked, Tally, fresh, tallyCheck, tallyMark, playedTally, tallyOr, tallied, tallyReply, tallyReplies, tallyAfter}
 use Rattle.session.specs.declared.counting.Counts.{Counts}
 use Rattle.session.specs.declared.counting.Mark.{Mark}
 use Rattle.session.specs.declared.counting.Mark.the-variants.{Toward, Level, Away}

@@ -90,9 +90,9 @@ module _ {s : Session} (z : Sized s) (p : PositionsHeld s) where
   pub current-length : length (currentOf s) ≡ s .n
   current-length = length-take-le (s .n) (s .current) current-room
 
--- The plays made and the fewest that remain are never below the fewest at the start (02, CR 2) ..
-pub sound-reaches : {s : Session} → Sound s → firstOf s ≤ s .counts .made + nowOf s
-sound-reaches r = omega (arith, r .account .sum, r .account .marks)
+-- The plays made and the fewest that remain are together never below the fewest at the start (02, CR 2) ..
+pub sound-covers : {s : Session} → Sound s → firstOf s ≤ s .counts .made + nowOf s
+sound-covers r = omega (arith, r .account .sum, r .account .marks)
 
 -- .. and their sum fits 64 bits.
 pub sound-fits : {s : Session} → Sized s → Sound s → s .counts .made + nowOf s < 2 ^ 64

@@ -1,4 +1,4 @@
--- The counts of a session, and what a play and a report make of them (document 01, Begin, Play and Report).
+-- The counts of a session, and what a play and a report make of them (document 01, Begin, Play and Report; 02, CR 2).
 use Prim.Native.Nat.{ℕ, _+_, _-_, _*_, _≤_}
 use mathlib.Core.Bool.{Bool, cond, _&&_}
 use mathlib.Core.Path.{_≡_}
@@ -60,13 +60,13 @@ pub record Account (c : Counts) (now first : ℕ) : Type 0 where
 abbrev pub excessOf : Counts → ℕ → ℕ → ℕ
 excessOf c now first = c .made + now - first
 
--- What the excess x of an account is. The law `account-excess` (proofs/Account) says that it is so.
+-- What the excess x of an account is. The law `account-excess` (proofs/Account) says that it is all this.
 pub record Excess (x : ℕ) (c : Counts) (now first : ℕ) : Type 0 where
   -- The rule, said as a sum, so that nothing is cut off at 0.
   pub rule : x + first ≡ c .made + now
   -- What the plays wasted: one move for each that is level, two for each away.
   pub wasted : x ≡ c .level + 2 * c .away
-  -- Where none remain, made less the fewest at the start; and made is not smaller.
+  -- At the goal, where none remain: made less the fewest at the start, and made is not smaller.
   pub arrived : now ≡ 0 → (first ≤ c .made) × (x ≡ c .made - first)
 
 -- What a report says: the counts, what remains, and the excess, from the fewest to the goal now and at the start.

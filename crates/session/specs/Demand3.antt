@@ -39,7 +39,7 @@ pub record Says (k : Mark) (before after : ℕ) : Type 0 where
   pub level : (k ≡ Level) ↔ (before ≡ after)
   pub away : (k ≡ Away) ↔ (after ≡ before + 1)
 
--- Report answers these counts, the fewest that remain, and the excess.
+-- Report answers these counts, the fewest that remain, and their excess (02, CR 2).
 pub record Reports (s : Session) (c : Counts) (now first : ℕ) : Type 0 where
   pub figures : Figures
   pub answered : reportAnswer s ≡ answer figures

@@ -1,8 +1,8 @@
 // The counts of a session, and what a play and a report make of them.
 ghost use mathlib.Core.Bool.{true};
 ghost use mathlib.Core.Path.{_≡_};
-ghost use Prim.Native.Nat.{_+_, _<_, _^_};
-ghost use Rattle.session.specs.Counts.{noPlays, markOf, counted, countsAgree, Account, excessOf};
+ghost use Prim.Native.Nat.{_+_, _≤_, _<_, _^_};
+ghost use Rattle.session.specs.Counts.{noPlays, markOf, counted, countsAgree, excessOf};
 
 // The plays made, and how many of them were toward, level and away.
 pub struct Counts {
@@ -94,7 +94,7 @@ impl Counts {
 
     // The plays made and the fewest moves that remain, less the fewest at the start.
     pub fn excess(self, remaining: u64, first: u64) -> u64
-        requires { ⌜ Account self remaining first ⌝ }
+        requires { ⌜ first ≤ self .made + remaining ⌝ }
         requires { ⌜ self .made + remaining < 2 ^ 64 ⌝ }
         ensures { λ r. ⌜ r ≡ excessOf self remaining first ⌝ }
     {

@@ -1,4 +1,4 @@
-// Report: the counts of a record and what remains.
+// Report: the counts of a record, what remains, and the excess.
 ghost use mathlib.Core.Bool.{true};
 ghost use mathlib.Core.Path.{_≡_};
 ghost use Rattle.session.specs.Answer.{reportReply, reportAnswer};

@@ -1,7 +1,8 @@
--- `session::reporting::figures` meets its contract: the positions of a sound record are ends, and its counts an account. Assumes nothing.
+-- `session::reporting::figures` meets its contract: the positions of a sound record are ends, and its excess neither wraps nor goes below 0. Assumes
+-- nothing.
 use borrow.Author.Needs.{needs}
 use Rattle.session.specs.Record.{Sound}
-use Rattle.session.proofs.Soundness.{Sized, sound-record, start-ends, current-ends, sound-fits}
+use Rattle.session.proofs.Soundness.{Sized, sound-record, start-ends, current-ends, sound-covers, sound-fits}
 use Rattle.session.proofs.reporting.figures.Statement.{statement}
 use Rattle.session.proofs.reporting.figures.Tie as tie
 
@@ -9,6 +10,7 @@ use Rattle.session.proofs.reporting.figures.Tie as tie
 sized : (c : tie.Start) → Sized (c .args .s)
 sized c = search needs
 
+-- The record is sound.
 sounds : (c : tie.Start) → Sound (c .args .s)
 sounds c = sound-record (c .args .s) (c .pre)
 
@@ -22,10 +24,11 @@ fewest-held-requires-2 c κs =
     let at = c .before .before .before .before .before in
     (sounds at .positions .few, start-ends (sized at) (sounds at .positions))
 
+-- The plays made and what remains cover the fewest at the start, and their sum fits.
 excess-requires : tie.Need-excess-requires
 excess-requires c κs =
     let at = c .before .before .before .before .before .before in
-    rw (c .fewest-held2 .ensures .0, c .before .fewest-held .ensures .0) (sounds at .account, sound-fits (sized at) (sounds at))
+    rw (c .fewest-held2 .ensures .0, c .before .fewest-held .ensures .0) (sound-covers (sounds at), sound-fits (sized at) (sounds at))
 
 returns : tie.Need-returns
 returns c =
