@@ -16,7 +16,7 @@ PACE = target/staticlib/libpace.a
 HEADER = include/towers.h
 OUT = target/c
 SOURCES = crates.txt $(shell find crates/board crates/plan crates/route crates/run crates/towers -name '*.rt' -o -name '*.antt')
-PACE_SOURCES = crates.txt $(shell find crates/board crates/plan crates/route crates/parts crates/pace -name '*.rt' -o -name '*.antt')
+PACE_SOURCES = crates.txt $(shell find crates/board crates/plan crates/route crates/parts crates/session crates/pace -name '*.rt' -o -name '*.antt')
 
 .PHONY: all library header example test bench install clean
 .DELETE_ON_ERROR:
@@ -60,7 +60,7 @@ test: header $(OUT)/host-sanitized $(OUT)/agree
 	$(OUT)/agree
 	tests/tower.sh
 
-# A call that C does not get, for the bench alone. It comes after the library, so that two `rt` do not prove at once.
+# Calls that C does not get, for the bench alone. It comes after the library, so that two `rt` do not prove at once.
 $(PACE): $(PACE_SOURCES) | $(LIBRARY)
 	$(RT) staticlib pace
 	@touch $@

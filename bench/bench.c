@@ -1,6 +1,7 @@
 /* Measures the library beside tests/hinz.c in one run: the same inputs, alternating rounds, medians. Runs are measured beside both of
  * that file's: the one with the topmost disc of each peg and the disc beneath each disc, as the library's, and the one by counting. The
- * letters of Parts, which is no C call, come from crates/pace and are measured beside a memset of as many bytes. */
+ * letters of Parts and the plays of a session, which are no C calls, come from crates/pace. Letters are measured beside a memset of as
+ * many bytes, plays beside what each cannot do without: three fewests, of tests/hinz.c. */
 #include <inttypes.h>
 #include <stdio.h>
 #include <stdlib.h>
@@ -11,13 +12,17 @@
 #include "random.h"
 #include "towers.h"
 
-enum { ROUNDS = 101, TASKS = 4096, RUN_BYTES = 8 << 20, PARTS_CALLS = 16 };
+enum { ROUNDS = 101, TASKS = 4096, RUN_BYTES = 8 << 20, PARTS_CALLS = 16, PLAYS = 4096 };
 
 typedef uint64_t shortest_fn(const uint8_t *task, size_t len);
 typedef uint64_t run_fn(const uint8_t *task, size_t len, uint64_t route, uint64_t first, uint8_t *out, size_t out_len);
+typedef uint64_t plays_fn(const uint8_t *task, size_t len, const uint8_t *plays, size_t plays_len);
 
 /* crates/pace: how many letters Parts wrote, or 0 where it refuses. */
 uint64_t pace_parts(const uint8_t *task, size_t len, uint64_t route, uint64_t first, uint8_t *out, size_t out_len);
+
+/* crates/pace: how many plays, each a from and a to, are accepted on a task. */
+uint64_t pace_plays(const uint8_t *task, size_t len, const uint8_t *plays, size_t plays_len);
 
 static double seconds(void)
 {
@@ -147,6 +152,51 @@ static void bench_parts(const char *label, size_t bytes, uint8_t *out)
     row(label, ours, theirs, "million letters a second");
 }
 
+/* Makes the plays on a bare position. A record is checked by the fewest from its start and from where it stands; the mark takes one more. */
+static uint64_t three_fewests(const uint8_t *task, size_t len, const uint8_t *plays, size_t plays_len)
+{
+    uint8_t held[2 * TOWER_LIMIT];
+    memcpy(held, task, len);
+    for (size_t i = 0; i < plays_len; i += 2) {
+        uint8_t *disc = memchr(held, plays[i], len / 2);
+        sink += hinz_shortest(task, len) + hinz_shortest(held, len);
+        *disc = plays[i + 1];
+        sink += hinz_shortest(held, len);
+    }
+    return plays_len / 2;
+}
+
+/* Thousand plays a second: a session on a random task of 60 discs, along its route 0. */
+static double time_plays(plays_fn *f, const uint8_t *plays)
+{
+    double begun = seconds();
+    uint64_t made = f(tasks[0], 2 * TOWER_LIMIT, plays, 2 * PLAYS);
+    double taken = seconds() - begun;
+    if (made != PLAYS) {
+        fprintf(stderr, "bench: a play was not accepted\n");
+        exit(1);
+    }
+    return PLAYS / taken * 1e-3;
+}
+
+static void bench_plays(const char *label)
+{
+    static uint8_t plays[2 * PLAYS];
+    double ours[ROUNDS], theirs[ROUNDS];
+    make_tasks(TOWER_LIMIT);
+    if (tower_run(tasks[0], 2 * TOWER_LIMIT, 0, 0, plays, sizeof plays) != PLAYS) {
+        fprintf(stderr, "bench: a random task of 60 discs has too few moves\n");
+        exit(1);
+    }
+    for (size_t i = 0; i < sizeof plays; i++)
+        plays[i] -= 'A';
+    for (int r = 0; r < ROUNDS; r++) {
+        ours[r] = time_plays(pace_plays, plays);
+        theirs[r] = time_plays(three_fewests, plays);
+    }
+    row(label, ours, theirs, "thousand plays a second");
+}
+
 int main(void)
 {
     uint8_t *out = malloc(4 << 20);
@@ -164,6 +214,9 @@ int main(void)
     printf("Letters, a round: %d calls of parts into 4 MiB, from random indexes, 60 discs.\n", PARTS_CALLS);
     printf("%-28s %9s %9s %7s\n", "", "library", "memset", "ratio");
     bench_parts("parts, 4 MiB, by memset", 4 << 20, out);
+    printf("Plays, a round: a session of %d plays along a random task of 60 discs; beside it three fewests of hinz.c a play.\n", PLAYS);
+    printf("%-28s %9s %9s %7s\n", "", "library", "hinz.c", "ratio");
+    bench_plays("plays, 60 discs");
     free(out);
     return sink == 0;
 }

@@ -81,7 +81,7 @@ empty-exactly p i = (
     top-past d l on e = top-before p i d (omega arith) on
 
 -- One of two tests passes exactly where one of two facts holds.
-either : (a b : Bool) {P Q : Type 0} → (a ≡ true) ↔ P → (b ≡ true) ↔ Q → ((a || b) ≡ true) ↔ (P ⊎ Q)
+pub either : (a b : Bool) {P Q : Type 0} → (a ≡ true) ↔ P → (b ≡ true) ↔ Q → ((a || b) ≡ true) ↔ (P ⊎ Q)
 either true b p q = ((λ e. inl (p .0 refl)), λ s. refl)
 either false b p q = (
   (λ e. inr (q .0 e)),

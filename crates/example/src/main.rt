@@ -61,6 +61,7 @@ fn report(record: Session) {
         Reported::Report(figures) => {
             show::named(b"remaining ", figures.remaining);
             show::named(b", excess ", figures.excess);
+            show::named(b", fumbles ", record.fumbles);
             show::text(b"\n");
         }
         Reported::Refused(why) => refusal(why.number()),

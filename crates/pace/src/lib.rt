@@ -2,6 +2,8 @@
 // What C owes: behind each pointer as many bytes as the length after it says, and an `out` that shares no byte with `task`.
 ghost use mathlib.Core.Path.{_≡_};
 ghost use Rattle.parts.specs.Answer.{partsAnswer, partsWrites};
+ghost use Rattle.session.specs.Answer.{beginAnswer, sessionOr};
+ghost use Rattle.session.specs.Sessions.{recordAfter, callsFrom};
 ghost use Rattle.pace.specs.Counts.{counted};
 use parts::Ran;
 
@@ -15,4 +17,15 @@ pub extern "C" fn pace_parts(task: &[u8], route: u64, first: u64, out: &mut [u8]
         Ran::Moves(count) => count as u64,
         Ran::Refused(_) => 0,
     }
+}
+
+// Begin on a task, and a list of plays on its record, each a from and a to: how many were accepted.
+#[no_mangle]
+pub extern "C" fn pace_plays(task: &[u8], plays: &[u8]) -> u64
+    ensures { λ r. ⌜ r ≡ recordAfter (sessionOr (beginAnswer (now (task .entry)))) (callsFrom (now (plays .entry))) .counts .made ⌝ }
+{
+    let begun = session::begin(task);
+    let after = session::replay(begun.session, plays);
+    let counts = after.counts;
+    counts.made
 }

@@ -28,7 +28,7 @@ fn positions(session: Session) {
     shown(b"a used byte of current is 3", used);
 }
 
-// Damaged numbers: n is 61, or one of the counts is one more.
+// Damaged counts: n is 61, or one of the counts is one more.
 fn numbers(session: Session) {
     let mut n = session;
     n.n = 61;
@@ -45,6 +45,19 @@ fn numbers(session: Session) {
     let mut away = session;
     away.counts.away = 1;
     shown(b"away is one more", away);
+}
+
+// Damaged numbers beside the counts: what remains is one more or one less than the fewest, and more fumbles than a record counts.
+fn beside(session: Session) {
+    let mut more = session;
+    more.remaining = 3;
+    shown(b"remaining is one more", more);
+    let mut less = session;
+    less.remaining = 1;
+    shown(b"remaining is one less", less);
+    let mut fumbles = session;
+    fumbles.fumbles = 1000001;
+    shown(b"fumbles are 1000001", fumbles);
 }
 
 // Counts that add up, and yet no plays lead to them: one toward too many for the position, and more plays than a record counts.
@@ -67,5 +80,6 @@ pub fn records() {
     shown(b"a sound record", session);
     positions(session);
     numbers(session);
+    beside(session);
     sums(session);
 }

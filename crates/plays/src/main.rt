@@ -2,6 +2,7 @@
 mod boards;
 mod damage;
 mod excess;
+mod fumbles;
 mod limit;
 mod same;
 mod say;
@@ -13,6 +14,8 @@ fn main() {
     whole::route();
     excess::reports();
     tasks::verdicts();
+    fumbles::refusals();
     damage::records();
     limit::plays();
+    limit::fumbles();
 }

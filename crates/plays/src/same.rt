@@ -39,9 +39,25 @@ pub fn same_record(a: Session, b: Session) -> bool {
     if a.n != b.n {
         return false;
     }
+    if a.fumbles != b.fumbles {
+        return false;
+    }
+    if a.remaining != b.remaining {
+        return false;
+    }
     if same_counts(a.counts, b.counts) {
         same_positions(a, b)
     } else {
         false
     }
+}
+
+// Whether the second record is the first with one fumble more.
+pub fn one_fumble_more(before: Session, after: Session) -> bool {
+    if after.fumbles == 0 {
+        return false;
+    }
+    let mut less = after;
+    less.fumbles -= 1;
+    same_record(before, less)
 }

@@ -27,7 +27,7 @@ module _ {c : Counts} {now first : ℕ} where
   unfolding countsAgree
   account-counts a = rw (eq-eqb _ _ (a .sum), le-leb _ _ (a .within))
 
-  account-marks : Account c now first → marksAgree c now first ≡ true
+  pub account-marks : Account c now first → marksAgree c now first ≡ true
   unfolding marksAgree
   account-marks a = eq-eqb _ _ (a .marks)
 

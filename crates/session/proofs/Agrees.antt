@@ -1,12 +1,10 @@
 -- The record and the tally agree, call by call.
-use Prim.Native.Nat.{ℕ}
+use Prim.Native.Nat.{ℕ, _+_, _≤_}
 use mathlib.Core.Bool.{true}
 use mathlib.Core.List.{List, _++_}
-use mathlib.Core.Logic.{_≢_}
+use mathlib.Core.Logic.{inl}
 use mathlib.Core.Path.{_≡_, _∙_, refl, sym, ap}
 use native.Mathlib.Omega.{arith}
-use borrow.Author.Tests.{eqb-false}
-use lib.Dec.{eqb}
 use lib.ListN.{length, length-append}
 use Rattle.board.specs.Fewest.{fewest}
 use Rattle.board.specs.Held.{padded}
@@ -22,39 +20,55 @@ use Rattle.board.proofs.Replies.{check-answered}
 use Rattle.board.proofs.Tasks.{SoundTask, sound-task, joined-task}
 use Rattle.board.proofs.Top.{length-moved}
 use Rattle.plan.proofs.OneMove.{moved-further, moved-nearer}
-use Rattle.session.specs.Answer.{opened, playCheck, moveMark, playAnswer, playedRecord, recordOr, playLeaves, reportAnswer}
-use Rattle.session.specs.Counts.{playLimit, Account}
+use Rattle.session.specs.Answer.{opened, playCheck, moveMark, playAnswer, playedRecord, refusedRecord, recordOr, playLeaves, reportAnswer}
+use Rattle.session.specs.Counts.{playLimit, fumble, full, Full, Account}
 use Rattle.session.specs.Record.{startOf, goalOf, currentOf, sound, Sound}
 use Rattle.session.specs.Sessions.{heldBy, recordReply, recordNext}
-use Rattle.session.specs.Tally.{Call, play, report, marked, Tally, fresh, tallyCheck, tallyMark, playedTally, tallyOr, tallied, tallyReply}
+use Rattle.session.specs.Tally.{Call, play, report, marked, Tally, fresh, tallyCheck, tallyMark, playedTally, refusedTally, tallyOr, tallied, tallyReply}
 use Rattle.session.specs.declared.counting.Mark.{Mark}
 use Rattle.session.specs.declared.record.Session.{Session}
 use Rattle.session.proofs.Account.{account-first, account-played}
+use Rattle.session.proofs.Fumbles.{not-full, fumbles-few}
 use Rattle.session.proofs.Soundness.{Sized, record-sound, start-ends, current-ends, current-length}
 
--- A record and a tally of a task agree: the record holds the tally, whose position is one of the task's and whose counts go with it.
+-- A record and a tally of a task agree: the record holds the tally, whose position is one of the task's and whose counts, fumbles and what
+-- remains go with it.
 pub record Agrees (t : List ℕ) (y : Tally) (s : Session) : Type 0 where
   pub held : s ≡ heldBy t y
   pub sized : length (y .position) ≡ discs t
   pub formed : WellFormed (y .position)
   pub account : Account (y .counts) (fewest (y .position) (goal t)) (fewest (start t) (goal t))
+  pub fumbles : y .fumbles ≤ playLimit
+  pub remaining : y .remaining ≡ fewest (y .position) (goal t)
 
 -- What a play that the tally accepts finds: it is not full, and the move is legal.
 pub record Accepts (y : Tally) (m : Move) : Type 0 where
-  pub more : y .counts .made ≢ playLimit
+  pub more : ¬ Full (y .counts) (y .fumbles)
   pub legal : Legal (y .position) m
 
 pub tally-accepts : (y : Tally) (m : Move) → tallyCheck y m ≡ pass → Accepts y m
 unfolding tallyCheck
 tally-accepts y m h =
-    let (more, rest) = check-answered (eqb (y .counts .made) playLimit) 11 _ h in
-    record { more = eqb-false (y .counts .made) playLimit more; legal = legal-accepted (y .position) m rest }
+    let (more, rest) = check-answered (full (y .counts) (y .fumbles)) 11 _ h in
+    record { more = not-full (y .counts) (y .fumbles) .0 more; legal = legal-accepted (y .position) m rest }
+
+-- After a play that the tally refuses its fumbles are few enough.
+tally-few : (y : Tally) (m : Move) {k : ℕ} → y .fumbles ≤ playLimit → tallyCheck y m ≡ refused k → y .fumbles + fumble k ≤ playLimit
+unfolding tallyCheck
+tally-few y m few e = fumbles-few (y .counts) (y .fumbles) _ few e
 
 module _ (t : List ℕ) (task : SoundTask t) where
   -- At first they agree.
   pub agrees-fresh : Agrees t (fresh t) (opened t)
   agrees-fresh =
-      record { held = refl; sized = task .start-length; formed = task .start-formed; account = account-first (fewest (start t) (goal t)) }
+      record {
+        held = refl;
+        sized = task .start-length;
+        formed = task .start-formed;
+        account = account-first (fewest (start t) (goal t));
+        fumbles = omega arith;
+        remaining = refl;
+      }
 
   module _ (y : Tally) (s : Session) (a : Agrees t y s) where
     -- The positions of the record that holds the tally.
@@ -80,6 +94,8 @@ module _ (t : List ℕ) (task : SoundTask t) where
                 current = padded-holds (y .position) (discs t) (a .sized) (a .formed);
               };
           account = rw (current-held, start-held, goal-held) (a .account);
+          fumbles = a .fumbles;
+          remaining = rw (current-held, goal-held) (a .remaining);
         })
 
     -- So a record that agrees with a tally is sound.
@@ -102,9 +118,9 @@ module _ (t : List ℕ) (task : SoundTask t) where
     held-answer m = rw (held-sound, current-held, goal-held)
 
     -- After an accepted play it holds the tally after it.
-    held-played : (m : Move) (k : Mark) → Legal (y .position) m → playedRecord (heldBy t y) m k ≡ heldBy t (playedTally y m k)
+    held-played : (m : Move) (k : Mark) → Legal (y .position) m → playedRecord (heldBy t y) m k ≡ heldBy t (playedTally t y m k)
     unfolding playedRecord
-    held-played m k l = rw (current-held, padded-moved (y .position) m l)
+    held-played m k l = rw (current-held, goal-held, padded-moved (y .position) m l)
 
     -- They reply the same.
     pub agrees-reply : (c : Call) → recordReply s c ≡ tallyReply t y c
@@ -118,7 +134,7 @@ module _ (t : List ℕ) (task : SoundTask t) where
 
     -- After an accepted play they agree.
     agrees-played : (m : Move) → Accepts y m
-        → Agrees t (playedTally y m (tallyMark t y m)) (playedRecord (heldBy t y) m (tallyMark t y m))
+        → Agrees t (playedTally t y m (tallyMark t y m)) (playedRecord (heldBy t y) m (tallyMark t y m))
     unfolding tallyMark
     agrees-played m p =
         let same : length (y .position) ≡ length (goal t) = a .sized ∙ sym (task .goal-length) in
@@ -128,7 +144,21 @@ module _ (t : List ℕ) (task : SoundTask t) where
           formed = formed-moved (y .position) m (a .formed) (p .legal);
           account =
               account-played (moved-further (y .position) (goal t) m same (a .formed) (task .goal-formed) (p .legal))
-              (moved-nearer (y .position) (goal t) m same (a .formed) (task .goal-formed) (p .legal)) (p .more) (a .account);
+              (moved-nearer (y .position) (goal t) m same (a .formed) (task .goal-formed) (p .legal)) (λ e. p .more (inl e)) (a .account);
+          fumbles = a .fumbles;
+          remaining = refl;
+        }
+
+    -- After a refused play too.
+    agrees-refused : (m : Move) {k : ℕ} → tallyCheck y m ≡ refused k → Agrees t (refusedTally y k) (refusedRecord (heldBy t y) k)
+    agrees-refused m e =
+        record {
+          held = refl;
+          sized = a .sized;
+          formed = a .formed;
+          account = a .account;
+          fumbles = tally-few y m (a .fumbles) e;
+          remaining = a .remaining;
         }
 
     -- They agree after every call.
@@ -138,8 +168,8 @@ module _ (t : List ℕ) (task : SoundTask t) where
     agrees-next (play m) = rw (a .held, held-answer m) (by (tallyCheck y m) refl)
       where
         by : (v : Check) → tallyCheck y m ≡ v
-            → Agrees t (tallyOr v (playedTally y m (tallyMark t y m)) y) (recordOr (v >> answer (tallyMark t y m)) (heldBy t y) m)
-        by (refused k) e = rw (← a .held) a
+            → Agrees t (tallyOr v (playedTally t y m (tallyMark t y m)) y) (recordOr (v >> answer (tallyMark t y m)) (heldBy t y) m)
+        by (refused k) e = agrees-refused m e
         by (answer u) e = agrees-played m (tally-accepts y m e)
 
 -- The task and the tally of a record.
@@ -147,7 +177,7 @@ abbrev pub taskOf : Session → List ℕ
 taskOf s = startOf s ++ goalOf s
 
 abbrev pub tallyOf : Session → Tally
-tallyOf s = record { position = currentOf s; counts = s .counts }
+tallyOf s = record { position = currentOf s; counts = s .counts; fumbles = s .fumbles; remaining = s .remaining }
 
 module _ (s : Session) (z : Sized s) (r : Sound s) where
   -- Every sound record is one that holds a tally: its task is sound ..
@@ -178,10 +208,14 @@ module _ (s : Session) (z : Sized s) (r : Sound s) where
               goal = (goal-is ∙ ap padded (sym second)) i;
               current = current-is i;
               counts = s .counts;
+              fumbles = s .fumbles;
+              remaining = s .remaining;
             };
         sized = size ∙ sym discs-are;
         formed = stands .start-formed;
         account = rw (first, second) (r .account);
+        fumbles = r .fumbles;
+        remaining = rw second (r .remaining);
       }
 
   -- So a play keeps a sound record sound.

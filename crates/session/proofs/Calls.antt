@@ -1,27 +1,30 @@
 -- What Begin, Play and Report answer, and when: demand 1 of them, and the laws for whoever calls them.
-use Prim.Native.Nat.{ℕ}
+use Prim.Native.Nat.{ℕ, _+_, _<_, _^_}
 use mathlib.Core.Bool.{Bool, true, false, not, true≢false}
 use mathlib.Core.List.{List, append-nil}
-use mathlib.Core.Logic.{_≢_, _↔_}
+use mathlib.Core.Logic.{_↔_}
 use mathlib.Core.Path.{_≡_, _∙_, refl, sym}
-use borrow.Author.Tests.{eqb-true, eqb-false, eq-eqb, ne-eqb, not-true, not-false}
-use lib.Dec.{eqb}
+use native.Mathlib.Nat.{add-zero}
+use native.Mathlib.Omega.{arith}
+use borrow.Author.Tests.{not-true, not-false}
 use Rattle.board.specs.Fault.{Faultless, Obeys, taskFaults}
+use Rattle.board.specs.Legal.{legalCheck}
 use Rattle.board.specs.Move.{Move, Legal}
-use Rattle.board.specs.Reply.{refused, answer, pass}
+use Rattle.board.specs.Reply.{refused, answer, _>>_, pass, check}
 use Rattle.board.proofs.Legality.{legal-accepted, legal-passes, legal-obeys}
 use Rattle.board.proofs.Obeys.{answer-obeys, check-obeys, then-obeys}
 use Rattle.board.proofs.Replies.{then-answered, check-answered}
 use Rattle.board.proofs.Tasks.{faultless-accepted, task-obeys}
 use Rattle.session.specs.Answer.{opened, beginAnswer, noSession, sessionOr, playCheck, moveMark, playAnswer, playedRecord, playLeaves, reportAnswer}
-use Rattle.session.specs.Counts.{playLimit, figuresOf}
+use Rattle.session.specs.Counts.{fumble, full, Full, figuresOf}
 use Rattle.session.specs.Demand3.{Reports}
-use Rattle.session.specs.Faults.{playFaults, reportFaults}
+use Rattle.session.specs.Faults.{playFaults, Kept, reportFaults}
 use Rattle.session.specs.Record.{currentOf, firstOf, nowOf, positionsHeld, sound, Sound}
 use Rattle.session.specs.declared.counting.Figures.{Figures}
 use Rattle.session.specs.declared.counting.Mark.{Mark}
 use Rattle.session.specs.declared.record.Session.{Session}
 use Rattle.session.proofs.Account.{account-excess}
+use Rattle.session.proofs.Fumbles.{fumble-one, fumble-none, full-exactly, not-full, fumbles-few}
 use Rattle.session.proofs.Soundness.{sound-record, record-sound}
 
 -- The test fails exactly where the record is not sound.
@@ -44,7 +47,7 @@ play-obeys s m =
     rw (← append-nil (playFaults s m))
     (then-obeys
     (then-obeys (check-obeys (not (sound s)) 10 (unsound s))
-    (then-obeys (check-obeys (eqb (s .counts .made) playLimit) 11 (eqb-true _ _, eq-eqb _ _)) (legal-obeys (currentOf s) m)))
+    (then-obeys (check-obeys (full (s .counts) (s .fumbles)) 11 (full-exactly (s .counts) (s .fumbles))) (legal-obeys (currentOf s) m)))
     (answer-obeys _))
 
 -- So is Report.
@@ -52,10 +55,24 @@ pub report-obeys : (s : Session) → Obeys (reportFaults s) (reportAnswer s)
 unfolding reportAnswer
 report-obeys s = then-obeys (check-obeys (not (sound s)) 10 (unsound s)) (answer-obeys _)
 
--- A refused play leaves the record as it stood.
-pub play-kept : (s : Session) (m : Move) {k : ℕ} → playAnswer s m ≡ refused k → playLeaves s m ≡ s
+-- A refused play leaves the record as it stood, but for one fumble more where it is refused with 8 or 9.
+pub play-kept : (s : Session) (m : Move) {k : ℕ} → playAnswer s m ≡ refused k → Kept k s (playLeaves s m)
 unfolding playLeaves
-play-kept s m e = rw e
+play-kept s m {k} e =
+    record {
+      fumbled = λ which. rw (e, fumble-one k which);
+      kept = λ no-8 no-9. rw (e, fumble-none k no-8 no-9, add-zero);
+    }
+
+-- Its fumbles fit 64 bits.
+pub play-fits : (s : Session) (m : Move) {k : ℕ} → s .fumbles < 2 ^ 64 → playCheck s m ≡ refused k → s .fumbles + fumble k < 2 ^ 64
+unfolding playCheck
+play-fits s m {k} fits e = by (sound s) refl e
+  where
+    by : (b : Bool) → sound s ≡ b → (check (not b) 10 >> (check (full (s .counts) (s .fumbles)) 11 >> legalCheck (currentOf s) m)) ≡ refused k
+        → s .fumbles + fumble k < 2 ^ 64
+    by true h r = omega (arith, fumbles-few (s .counts) (s .fumbles) _ (sound-record s h .fumbles) r)
+    by false h r = let is : k ≡ 10 = cc in rw is (omega arith)
 
 -- A task without faults is begun.
 pub begin-accepts : (t : List ℕ) → Faultless (taskFaults t) → beginAnswer t ≡ answer (opened t)
@@ -81,26 +98,26 @@ begin-refused t e = rw e
 -- What a play that is marked finds: a sound record that is not full, and a legal move.
 pub record PlayAccepted (s : Session) (m : Move) : Type 0 where
   pub sounds : Sound s
-  pub more : s .counts .made ≢ playLimit
+  pub more : ¬ Full (s .counts) (s .fumbles)
   pub legal : Legal (currentOf s) m
 
 pub play-passed : (s : Session) (m : Move) → playCheck s m ≡ pass → PlayAccepted s m
 unfolding playCheck
 play-passed s m h =
     let (sounds, rest) = check-answered (not (sound s)) 10 _ h in
-    let (more, last) = check-answered (eqb (s .counts .made) playLimit) 11 _ rest in
+    let (more, last) = check-answered (full (s .counts) (s .fumbles)) 11 _ rest in
     record {
       sounds = sound-record s (not-false (sound s) sounds);
-      more = eqb-false (s .counts .made) playLimit more;
+      more = not-full (s .counts) (s .fumbles) .0 more;
       legal = legal-accepted (currentOf s) m last;
     }
 
 -- A legal move on a sound record that is not full is marked.
-pub play-accepts : (s : Session) (m : Move) → Sound s → s .counts .made ≢ playLimit → Legal (currentOf s) m
+pub play-accepts : (s : Session) (m : Move) → Sound s → ¬ Full (s .counts) (s .fumbles) → Legal (currentOf s) m
     → playAnswer s m ≡ answer (moveMark s m)
 unfolding playAnswer playCheck
 play-accepts s m sounds more legal =
-    rw (record-sound s sounds, ne-eqb (s .counts .made) playLimit more, legal-passes (currentOf s) m legal)
+    rw (record-sound s sounds, not-full (s .counts) (s .fumbles) .1 more, legal-passes (currentOf s) m legal)
 
 -- Its mark, and the record after it.
 pub record PlayAnswered (s : Session) (m : Move) (k : Mark) : Type 0 where

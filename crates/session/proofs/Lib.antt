@@ -1,6 +1,7 @@
 -- Demand 3, and the laws of sessions that lead to it.
 pub mod Marks
 pub mod Account
+pub mod Fumbles
 pub mod Soundness
 pub mod Agrees
 pub mod Calls

@@ -15,7 +15,7 @@ use Rattle.session.specs.Answer.{opened, beginAnswer}
 use Rattle.session.specs.Counts.{counted}
 use Rattle.session.specs.Demand3.{Says, Reports, Accounted}
 use Rattle.session.specs.Record.{currentOf}
-use Rattle.session.specs.Sessions.{recordReply, recordNext, recordReplies, recordAfter, replyAt, Play, withPlay, acceptedPlays, countMarks}
+use Rattle.session.specs.Sessions.{recordReply, recordNext, recordReplies, recordAfter, replyAt, Play, withPlay, acceptedPlays, countMarks, isRefused, countRefused}
 use Rattle.session.specs.Tally.{Call, play, report, marked, Tally, fresh, tallyCheck, tallyMark, playedTally, tallyOr, tallied, tallyReply, tallyReplies, tallyAfter}
 use Rattle.session.specs.declared.counting.Counts.{Counts}
 use Rattle.session.specs.declared.counting.Mark.{Mark}
@@ -23,6 +23,7 @@ use Rattle.session.specs.declared.counting.Mark.the-variants.{Toward, Le
 use Rattle.session.specs.declared.record.Session.{Session}
 use Rattle.session.proofs.Agrees.{Agrees, tally-accepts, agrees-fresh, agrees-sound, agrees-current, agrees-start, agrees-goal, agrees-reply, agrees-next}
 use Rattle.session.proofs.Calls.{sound-reports}
+use Rattle.session.proofs.Fumbles.{fumble-both}
 use Rattle.session.proofs.Marks.{mark-says}
 use Rattle.session.proofs.Soundness.{sound-record}
 
@@ -53,7 +54,7 @@ plays-lead t y (play m ∷ cs) =
     k = tallyMark t y m
 
     by : (v : Check) → tallyCheck y m ≡ v → (ps : List Play) {q : List ℕ}
-        → Leads (tallyOr v (playedTally y m k) y .position) (map (λ p. p .move) ps) q
+        → Leads (tallyOr v (playedTally t y m k) y .position) (map (λ p. p .move) ps) q
         → Leads (y .position) (map (λ p. p .move) (withPlay (play m) (v >> answer (marked k)) ps)) q
     by (refused n) e ps w = w
     by (answer u) e ps w = next (tally-accepts y m e .legal) w
@@ -76,10 +77,26 @@ counts-rise t y (play m ∷ cs) = by (tallyCheck y m) (counts-rise t (tallied t 
     k : Mark
     k = tallyMark t y m
 
-    by : (v : Check) → {d : Counts} {ps : List Play} → Rises (tallyOr v (playedTally y m k) y .counts) d ps
+    by : (v : Check) → {d : Counts} {ps : List Play} → Rises (tallyOr v (playedTally t y m k) y .counts) d ps
         → Rises (y .counts) d (withPlay (play m) (v >> answer (marked k)) ps)
     by (refused n) r = r
     by (answer u) r = omega arith
+
+-- And the fumbles rise by the plays that are refused with 8 or 9.
+fumbles-rise : (t : List ℕ) (y : Tally) (cs : List Call)
+    → tallyAfter t y cs .fumbles ≡ y .fumbles + (countRefused 8 cs (tallyReplies t y cs) + countRefused 9 cs (tallyReplies t y cs))
+unfolding countRefused tallyAfter tallied tallyReplies tallyReply
+fumbles-rise t y [] = omega arith
+fumbles-rise t y (report ∷ cs) = omega (arith, fumbles-rise t y cs)
+fumbles-rise t y (play m ∷ cs) = by (tallyCheck y m) _ _ (fumbles-rise t (tallied t y (play m)) cs)
+  where
+    k : Mark
+    k = tallyMark t y m
+
+    by : (v : Check) → {f : ℕ} (eights nines : ℕ) → f ≡ tallyOr v (playedTally t y m k) y .fumbles + (eights + nines)
+        → f ≡ y .fumbles + (isRefused 8 (play m) (v >> answer (marked k)) + eights + (isRefused 9 (play m) (v >> answer (marked k)) + nines))
+    by (refused n) eights nines e = omega (arith, fumble-both n)
+    by (answer u) eights nines e = omega arith
 
 -- A list of calls and then one more.
 after-one : (s : Session) (cs : List Call) (c : Call) → recordAfter s (cs ++ (c ∷ [])) ≡ recordNext (recordAfter s cs) c
@@ -135,6 +152,8 @@ module _ (t : List ℕ) (task : SoundTask t) where
             (sym (replies-at (opened t) before (play m) after) ∙ ap (λ (ds : List Call). replyAt (recordReplies (opened t) ds) (length before)) (sym split) ∙ e));
         balance = rw (current, a .held) (a .account .marks);
         reports = agrees-reports (tallyAfter t (fresh t) cs) (recordAfter (opened t) cs) a;
+        fumbles = rw (replies, a .held) (omega (arith, fumbles-rise t (fresh t) cs));
+        remaining = rw (current, a .held) (a .remaining);
         replies = replies;
         holds = a .held;
       }

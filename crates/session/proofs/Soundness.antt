@@ -5,8 +5,8 @@ use mathlib.Core.List.{List}
 use mathlib.Core.Logic.{_↔_}
 use mathlib.Core.Path.{_≡_}
 use native.Mathlib.Omega.{arith}
-use borrow.Author.Tests.{leb-true, le-leb}
-use lib.Dec.{leb}
+use borrow.Author.Tests.{eqb-true, eq-eqb, leb-true, le-leb}
+use lib.Dec.{eqb, leb}
 use lib.ListN.{length, take}
 use lib.Seq.{length-take-le}
 use Rattle.board.specs.Held.{holdsPosition, HoldsPosition}
@@ -14,9 +14,10 @@ use Rattle.board.specs.Task.{limit}
 use Rattle.board.proofs.Arrays.{holds-exactly, held-formed}
 use Rattle.plan.specs.Inner.Sound.{Ends}
 use Rattle.plan.proofs.Sound.{ends-fewest, ends-fit}
+use Rattle.session.specs.Counts.{playLimit, countsAgree}
 use Rattle.session.specs.Record.{startOf, goalOf, currentOf, firstOf, nowOf, positionsHeld, sound, PositionsHeld, Sound}
 use Rattle.session.specs.declared.record.Session.{Session}
-use Rattle.session.proofs.Account.{account-exactly}
+use Rattle.session.proofs.Account.{account-counts, account-marks, account-exactly}
 
 -- A record that passes the test of its positions holds them.
 pub positions-held : (s : Session) → positionsHeld s ≡ true → PositionsHeld s
@@ -50,13 +51,23 @@ positions-exactly s = (positions-held s, held-positions s)
 pub sound-record : (s : Session) → sound s ≡ true → Sound s
 unfolding sound
 sound-record s h =
-    let (held, account) = and-eq-true-iff (positionsHeld s) _ .0 h in
-    record { positions = positions-held s held; account = account-exactly .0 account }
+    let (held, h₁) = and-eq-true-iff (positionsHeld s) _ .0 h in
+    let (counts, h₂) = and-eq-true-iff (countsAgree (s .counts)) _ .0 h₁ in
+    let (fumbles, h₃) = and-eq-true-iff (leb (s .fumbles) playLimit) _ .0 h₂ in
+    let (remaining, marks) = and-eq-true-iff (eqb (s .remaining) (nowOf s)) _ .0 h₃ in
+    record {
+      positions = positions-held s held;
+      account = account-exactly .0 (and-eq-true-iff (countsAgree (s .counts)) _ .1 (counts, marks));
+      fumbles = leb-true _ _ fumbles;
+      remaining = eqb-true _ _ remaining;
+    }
 
 -- What is sound passes the test.
 pub record-sound : (s : Session) → Sound s → sound s ≡ true
 unfolding sound
-record-sound s r = rw (held-positions s (r .positions)) (account-exactly .1 (r .account))
+record-sound s r =
+    rw (held-positions s (r .positions), account-counts (r .account), le-leb _ _ (r .fumbles), eq-eqb _ _ (r .remaining))
+    (account-marks (r .account))
 
 pub sound-exactly : (s : Session) → (sound s ≡ true) ↔ Sound s
 sound-exactly s = (sound-record s, record-sound s)

@@ -1,8 +1,7 @@
--- What Begin, Play and Report answer, and the record afterwards (document 01, "The operations and when each refuses").
+-- What Begin, Play and Report answer, and the record afterwards (document 01, "The operations and when each refuses"; 02, CR 3).
 use Prim.Native.Nat.{ℕ, _+_}
 use mathlib.Core.Bool.{not}
 use mathlib.Core.List.{List}
-use lib.Dec.{eqb}
 use lib.ListN.{replicate, set}
 use Rattle.board.specs.Fewest.{fewest}
 use Rattle.board.specs.Held.{padded}
@@ -11,7 +10,7 @@ use Rattle.board.specs.Move.{Move, top, moved}
 use Rattle.board.specs.Refusal.{number, verdictReply}
 use Rattle.board.specs.Reply.{Reply, refused, answer, _>>_, Check, check}
 use Rattle.board.specs.Task.{limit, discs, start, goal, taskCheck}
-use Rattle.session.specs.Counts.{playLimit, noPlays, markOf, counted, figuresOf}
+use Rattle.session.specs.Counts.{noPlays, markOf, counted, fumble, full, figuresOf}
 use Rattle.session.specs.Record.{currentOf, goalOf, firstOf, nowOf, sound}
 use Rattle.session.specs.declared.beginning.Begun.{Begun}
 use Rattle.session.specs.declared.counting.Figures.{Figures}
@@ -28,7 +27,7 @@ beginReply b = do
   verdictReply (b .verdict)
   answer (b .session)
 
--- The record of a task: current is the start, all counts 0.
+-- The record of a task: current is the start, all counts and the fumbles are 0, and what remains is the fewest from start to goal.
 abbrev pub opened : List ℕ → Session
 opened t =
     record {
@@ -37,6 +36,8 @@ opened t =
       goal = padded (goal t);
       current = padded (start t);
       counts = noPlays;
+      fumbles = 0;
+      remaining = fewest (start t) (goal t);
     }
 
 -- Begin: task faults.
@@ -54,6 +55,8 @@ noSession =
       goal = replicate limit 0;
       current = replicate limit 0;
       counts = noPlays;
+      fumbles = 0;
+      remaining = 0;
     }
 
 -- The record that Begin hands out.
@@ -61,11 +64,11 @@ abbrev pub sessionOr : Reply Session → Session
 sessionOr (refused k) = noSession
 sessionOr (answer s) = s
 
--- Play: 10, unsound record; 11, made is already 1,000,000; then 3, 8 and 9.
+-- Play: 10, unsound record; 11, made or the fumbles are already 1,000,000; then 3, 8 and 9.
 unfoldable pub playCheck : Session → Move → Check
 playCheck s m = do
   check (not (sound s)) 10
-  check (eqb (s .counts .made) playLimit) 11
+  check (full (s .counts) (s .fumbles)) 11
   legalCheck (currentOf s) m
 
 -- What an answer of Play says: the mark.
@@ -82,7 +85,7 @@ playAnswer s m = do
   playCheck s m
   answer (moveMark s m)
 
--- The record after an accepted play: the smallest disc of from has moved in current, and the play is counted.
+-- The record after an accepted play: the smallest disc of from has moved in current, the play is counted, and what remains is set anew.
 unfoldable pub playedRecord : Session → Move → Mark → Session
 playedRecord s m k =
     record {
@@ -91,11 +94,26 @@ playedRecord s m k =
       goal = s .goal;
       current = set (s .current) (top (currentOf s) (m .from)) (m .to);
       counts = counted (s .counts) k;
+      fumbles = s .fumbles;
+      remaining = fewest (moved (currentOf s) m) (goalOf s);
     }
 
--- What Play leaves of the record: after a refusal it is as it stood.
+-- The record after a play refused with k: its fumbles alone may rise.
+abbrev pub refusedRecord : Session → ℕ → Session
+refusedRecord s k =
+    record {
+      n = s .n;
+      start = s .start;
+      goal = s .goal;
+      current = s .current;
+      counts = s .counts;
+      fumbles = s .fumbles + fumble k;
+      remaining = s .remaining;
+    }
+
+-- What Play leaves of the record.
 abbrev pub recordOr : Reply Mark → Session → Move → Session
-recordOr (refused k) s m = s
+recordOr (refused k) s m = refusedRecord s k
 recordOr (answer k) s m = playedRecord s m k
 
 unfoldable pub playLeaves : Session → Move → Session

@@ -1,6 +1,7 @@
--- The counts of a session, and what a play and a report make of them (document 01, Begin, Play and Report; 02, CR 2).
+-- The counts of a session, and what a play and a report make of them (document 01, Begin, Play and Report; 02, CR 2 and CR 3).
 use Prim.Native.Nat.{ℕ, _+_, _-_, _*_, _≤_}
-use mathlib.Core.Bool.{Bool, cond, _&&_}
+use mathlib.Core.Bool.{Bool, cond, _&&_, _||_}
+use mathlib.Core.Logic.{_⊎_}
 use mathlib.Core.Path.{_≡_}
 use lib.Dec.{eqb, ltb, leb}
 use Rattle.session.specs.declared.counting.Counts.{Counts}
@@ -8,7 +9,7 @@ use Rattle.session.specs.declared.counting.Figures.{Figures}
 use Rattle.session.specs.declared.counting.Mark.{Mark}
 use Rattle.session.specs.declared.counting.Mark.the-variants.{Toward, Level, Away}
 
--- The most plays that are counted.
+-- The most plays that are counted, and the most fumbles.
 abbrev pub playLimit : ℕ
 playLimit = 1000000
 
@@ -41,6 +42,18 @@ counted c k =
       level = c .level + isMark Level k;
       away = c .away + isMark Away k;
     }
+
+-- What a refused play adds to the fumbles (02, CR 3): 1 if it was refused with 8 or 9, 0 with any other number.
+abbrev pub fumble : ℕ → ℕ
+fumble k = cond (eqb k 8) 1 (cond (eqb k 9) 1 0)
+
+-- The test that no more plays are taken (document 01, Play; 02, CR 3): made or the fumbles stand at 1,000,000.
+unfoldable pub full : Counts → ℕ → Bool
+full c fumbles = eqb (c .made) playLimit || eqb fumbles playLimit
+
+-- The same as a proposition. The law `full-exactly` (proofs/Fumbles) says that the test passes exactly here.
+abbrev pub Full : Counts → ℕ → Type 0
+Full c fumbles = (c .made ≡ playLimit) ⊎ (fumbles ≡ playLimit)
 
 -- The test that the counts add up: made = toward + level + away, and made is at most 1,000,000.
 unfoldable pub countsAgree : Counts → Bool

@@ -17,7 +17,7 @@ use Rattle.route.specs.Ours.{ourRoute, readMoves}
 use Rattle.session.specs.Answer.{beginAnswer, reportAnswer}
 use Rattle.session.specs.Counts.{Excess}
 use Rattle.session.specs.Record.{currentOf}
-use Rattle.session.specs.Sessions.{recordReplies, recordAfter, replyAt, Play, acceptedPlays, countMarks, heldBy}
+use Rattle.session.specs.Sessions.{recordReplies, recordAfter, replyAt, Play, acceptedPlays, countMarks, countRefused, heldBy}
 use Rattle.session.specs.Tally.{Call, play, marked, fresh, tallyReplies, tallyAfter}
 use Rattle.session.specs.declared.counting.Counts.{Counts}
 use Rattle.session.specs.declared.counting.Figures.{Figures}
@@ -61,6 +61,9 @@ pub record Accounted (t : List ℕ) (s : Session) (cs : List Call) : Type 0 wher
       ≡ recordAfter s cs .counts .away + fewest (start t) (goal t)
   -- Report answers: the counts, what remains, and the excess.
   pub reports : Reports (recordAfter s cs) (recordAfter s cs .counts) (fewest (currentOf (recordAfter s cs)) (goal t)) (fewest (start t) (goal t))
+  -- The fumbles are how many plays were refused with 8 or 9, and what remains is the fewest now (02, CR 3).
+  pub fumbles : recordAfter s cs .fumbles ≡ countRefused 8 cs (recordReplies s cs) + countRefused 9 cs (recordReplies s cs)
+  pub remaining : recordAfter s cs .remaining ≡ fewest (currentOf (recordAfter s cs)) (goal t)
   -- Every call has replied as the tally did, and the record holds the tally.
   pub replies : recordReplies s cs ≡ tallyReplies t (fresh t) cs
   pub holds : recordAfter s cs ≡ heldBy t (tallyAfter t (fresh t) cs)

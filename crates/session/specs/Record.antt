@@ -1,13 +1,14 @@
--- The session record, and when it is sound (document 01, Begin and Play).
+-- The session record, and when it is sound (document 01, Begin and Play; 02, CR 3).
 use Prim.Native.Nat.{ℕ, _≤_}
 use mathlib.Core.Bool.{Bool, _&&_}
 use mathlib.Core.List.{List}
-use lib.Dec.{leb}
+use mathlib.Core.Path.{_≡_}
+use lib.Dec.{eqb, leb}
 use lib.ListN.{take}
 use Rattle.board.specs.Fewest.{fewest}
 use Rattle.board.specs.Held.{holdsPosition, HoldsPosition}
 use Rattle.board.specs.Task.{limit}
-use Rattle.session.specs.Counts.{countsAgree, marksAgree, Account}
+use Rattle.session.specs.Counts.{playLimit, countsAgree, marksAgree, Account}
 use Rattle.session.specs.declared.record.Session.{Session}
 
 -- The positions of a record: its first n bytes.
@@ -35,9 +36,15 @@ positionsHeld s =
     && (holdsPosition (s .n) (s .goal)
     && holdsPosition (s .n) (s .current)))
 
--- The test that a record is sound: its positions are, and its counts account for them.
+-- The test that a record is sound: its positions are, its fumbles are few enough, what remains is the fewest from where it stands, and its
+-- counts account for them.
 unfoldable pub sound : Session → Bool
-sound s = positionsHeld s && (countsAgree (s .counts) && marksAgree (s .counts) (nowOf s) (firstOf s))
+sound s =
+    positionsHeld s
+    && (countsAgree (s .counts)
+    && (leb (s .fumbles) playLimit
+    && (eqb (s .remaining) (nowOf s)
+    && marksAgree (s .counts) (nowOf s) (firstOf s))))
 
 -- The same as propositions. The laws `positions-exactly` and `sound-exactly` (proofs/Soundness) say that the tests pass exactly here.
 pub record PositionsHeld (s : Session) : Type 0 where
@@ -49,3 +56,5 @@ pub record PositionsHeld (s : Session) : Type 0 where
 pub record Sound (s : Session) : Type 0 where
   pub positions : PositionsHeld s
   pub account : Account (s .counts) (nowOf s) (firstOf s)
+  pub fumbles : s .fumbles ≤ playLimit
+  pub remaining : s .remaining ≡ nowOf s

@@ -1,6 +1,8 @@
 -- A list of calls on a record: the replies, the record at the end, and the plays that were accepted.
 use Prim.Native.Nat.{ℕ, _+_}
+use mathlib.Core.Bool.{cond}
 use mathlib.Core.List.{List, [], _∷_}
+use lib.Dec.{eqb}
 use lib.ListN.{getD}
 use Rattle.board.specs.Held.{padded}
 use Rattle.board.specs.Move.{Move}
@@ -56,7 +58,19 @@ unfoldable pub countMarks : Mark → List Play → ℕ
 countMarks k [] = 0
 countMarks k (p ∷ ps) = isMark k (p .mark) + countMarks k ps
 
--- The record that holds a tally: n, start and goal as Begin set them, the tally's position and counts, and unused bytes 0.
+-- How many plays were refused with k, read off the calls and their replies (02, CR 3).
+abbrev pub isRefused : ℕ → Call → Reply Said → ℕ
+isRefused k (play m) (refused j) = cond (eqb j k) 1 0
+isRefused k (play m) (answer a) = 0
+isRefused k report r = 0
+
+unfoldable pub countRefused : ℕ → List Call → List (Reply Said) → ℕ
+countRefused k [] rs = 0
+countRefused k (c ∷ cs) [] = 0
+countRefused k (c ∷ cs) (r ∷ rs) = isRefused k c r + countRefused k cs rs
+
+-- The record that holds a tally: n, start and goal as Begin set them, the tally's position, counts, fumbles and what remains, and unused
+-- bytes 0.
 abbrev pub heldBy : List ℕ → Tally → Session
 heldBy t y =
     record {
@@ -65,6 +79,8 @@ heldBy t y =
       goal = padded (goal t);
       current = padded (y .position);
       counts = y .counts;
+      fumbles = y .fumbles;
+      remaining = y .remaining;
     }
 
 -- The plays that a list of bytes gives: each two are a from and a to, and a last byte by itself is passed over.

@@ -5,6 +5,7 @@ ghost use Rattle.board.specs.Task.{taskCheck};
 ghost use Rattle.session.specs.Answer.{noSession, opened as openedOf, beginReply, beginAnswer, sessionOr};
 use crate::counting::Counts;
 use crate::record::Session;
+use crate::sound::fewest_of;
 use board::LIMIT;
 use board::Verdict;
 
@@ -25,6 +26,8 @@ fn no_session() -> Session
         goal: zeros,
         current: zeros,
         counts: Counts::none(),
+        fumbles: 0,
+        remaining: 0,
     }
 }
 
@@ -36,12 +39,15 @@ fn opened(task: &[u8]) -> Session
     let n = task.len() / 2;
     let start = board::padded_array(&task[..n]);
     let goal = board::padded_array(&task[n..]);
+    let remaining = fewest_of(&task[..n], &task[n..]);
     Session {
         n,
         start,
         goal,
         current: start,
         counts: Counts::none(),
+        fumbles: 0,
+        remaining,
     }
 }
 

@@ -2,7 +2,9 @@
 ghost use mathlib.Core.Bool.{true};
 ghost use mathlib.Core.Path.{_≡_};
 ghost use Prim.Native.Nat.{_+_, _≤_, _<_, _^_};
-ghost use Rattle.session.specs.Counts.{noPlays, markOf, counted, countsAgree, excessOf};
+ghost use Rattle.board.specs.Refusal.{number};
+ghost use Rattle.session.specs.Counts.{noPlays, markOf, counted, fumble as fumbleOf, full, countsAgree, excessOf};
+use board::Refusal;
 
 // The plays made, and how many of them were toward, level and away.
 pub struct Counts {
@@ -26,7 +28,7 @@ pub struct Figures {
     pub excess: u64,
 }
 
-// The most plays that are counted.
+// The most plays that are counted, and the most fumbles.
 pub const PLAY_LIMIT: u64 = 1000000;
 
 impl Mark {
@@ -42,6 +44,20 @@ impl Mark {
         }
         Mark::Level
     }
+}
+
+// What a refused play adds to the fumbles: 1 if it was refused with 8 or 9, 0 with any other number.
+pub fn fumble(why: Refusal) -> u64
+    ensures { λ r. ⌜ r ≡ fumbleOf (number why) ⌝ }
+{
+    let refusal = why.number();
+    if refusal == 8 {
+        return 1;
+    }
+    if refusal == 9 {
+        return 1;
+    }
+    0
 }
 
 impl Counts {
@@ -70,6 +86,13 @@ impl Counts {
             Mark::Away => counts.away += 1,
         }
         counts
+    }
+
+    // Whether no more plays are taken: the plays made or the fumbles are as many as are counted.
+    pub fn is_full(self, fumbles: u64) -> bool
+        ensures { λ r. ⌜ r ≡ full self fumbles ⌝ }
+    {
+        self.made == PLAY_LIMIT || fumbles == PLAY_LIMIT
     }
 
     // Whether the counts of the marks add up to the plays made, and those are few enough.

@@ -6,7 +6,8 @@ use crate::playing::Stepped;
 use crate::playing::step;
 use crate::record::Session;
 
-// Play: makes a play on the lent record itself, and answers its mark. A refused play leaves the record as it was.
+// Play: makes a play on the lent record itself, and answers its mark. A refused play leaves the record as it was, but for one fumble more
+// where it is refused with 8 or 9.
 pub fn play(session: &mut Session, from: u8, to: u8) -> Played
     ensures { λ r. ⌜ (playReply r ≡ playAnswer (now (session .entry)) (record { from = from; to = to }))
         × (now (session .exit) ≡ playLeaves (now (session .entry)) (record { from = from; to = to })) ⌝ }

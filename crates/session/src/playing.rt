@@ -1,10 +1,12 @@
 // Play: one move on a record's current position.
 ghost use mathlib.Core.Path.{_≡_};
-ghost use Rattle.board.specs.Refusal.{verdictReply};
+ghost use Prim.Native.Nat.{_+_, _<_, _^_};
+ghost use Rattle.board.specs.Refusal.{number, verdictReply};
 ghost use Rattle.board.specs.Reply.{pass};
-ghost use Rattle.session.specs.Answer.{playCheck, playReply, playAnswer, playLeaves};
+ghost use Rattle.session.specs.Answer.{playCheck, playReply, playAnswer, playLeaves, refusedRecord};
+ghost use Rattle.session.specs.Counts.{fumble as fumbleOf};
 use crate::counting::Mark;
-use crate::counting::PLAY_LIMIT;
+use crate::counting::fumble;
 use crate::record::Session;
 use crate::sound::fewest_held;
 use crate::sound::is_sound;
@@ -31,7 +33,7 @@ fn play_verdict(s: Session, from: u8, to: u8) -> Verdict
         return Verdict::Refused(Refusal::UnsoundRecord);
     }
     let counts = s.counts;
-    if counts.made == PLAY_LIMIT {
+    if counts.is_full(s.fumbles) {
         return Verdict::Refused(Refusal::TooManyPlays);
     }
     let n = s.n;
@@ -39,7 +41,18 @@ fn play_verdict(s: Session, from: u8, to: u8) -> Verdict
     board::legal_verdict(&current[..n], from, to)
 }
 
-// An accepted play: the disc moves, and the play is counted.
+// The record after a refused play: one fumble more where it was refused with 8 or 9.
+fn refused(s: Session, why: Refusal) -> Session
+    requires { ⌜ s .fumbles + fumbleOf (number why) < 2 ^ 64 ⌝ }
+    ensures { λ r. ⌜ r ≡ refusedRecord s (number why) ⌝ }
+{
+    let mut session = s;
+    session.fumbles += fumble(why);
+    session
+}
+
+// An accepted play: the disc moves, the play is counted, and what remains is set anew. The record being sound, what remained before is
+// at hand, and one fewest is worked out.
 fn accepted(s: Session, from: u8, to: u8) -> Stepped
     requires { ⌜ playCheck s (record { from = from; to = to }) ≡ pass ⌝ }
     ensures { λ r. ⌜ (playReply (r .played) ≡ playAnswer s (record { from = from; to = to }))
@@ -49,22 +62,22 @@ fn accepted(s: Session, from: u8, to: u8) -> Stepped
     let goal = s.goal;
     let mut current = s.current;
     let counts = s.counts;
-    let before = fewest_held(n, current, goal);
     let disc = board::top_of(&current[..n], from);
     current[disc] = to;
-    let after = fewest_held(n, current, goal);
-    let mark = Mark::of(before, after);
+    let remaining = fewest_held(n, current, goal);
+    let mark = Mark::of(s.remaining, remaining);
     let mut session = s;
     session.current = current;
     session.counts = counts.with(mark);
+    session.remaining = remaining;
     Stepped {
         played: Played::Marked(mark),
         session,
     }
 }
 
-// Play on a record by value: the mark of a move, and the record after it. Refuses with 10, 11, 3, 8 and 9, and then leaves the record
-// as it is.
+// Play on a record by value: the mark of a move, and the record after it. Refuses with 10, 11, 3, 8 and 9; with 8 and 9 the record then
+// has one fumble more, and else it is as it was.
 pub fn step(s: Session, from: u8, to: u8) -> Stepped
     ensures { λ r. ⌜ (playReply (r .played) ≡ playAnswer s (record { from = from; to = to }))
         × (r .session ≡ playLeaves s (record { from = from; to = to })) ⌝ }
@@ -72,7 +85,7 @@ pub fn step(s: Session, from: u8, to: u8) -> Stepped
     match play_verdict(s, from, to) {
         Verdict::Refused(why) => Stepped {
             played: Played::Refused(why),
-            session: s,
+            session: refused(s, why),
         },
         Verdict::Accepted => accepted(s, from, to),
     }

@@ -4,8 +4,7 @@ ghost use Rattle.session.specs.Sessions.{recordAfter, callsFrom};
 use crate::playing::step;
 use crate::record::Session;
 
-// The record after a list of plays, each a from and a to. A last byte by itself is passed over, and a refused play leaves the record
-// as it was.
+// The record after a list of plays, each a from and a to, refused ones among them. A last byte by itself is passed over.
 pub fn replay(session: Session, plays: &[u8]) -> Session
     ensures { λ r. ⌜ r ≡ recordAfter session (callsFrom (now (plays .entry))) ⌝ }
 {

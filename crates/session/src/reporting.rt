@@ -23,9 +23,8 @@ fn figures(s: Session) -> Figures
 {
     let start = s.start;
     let goal = s.goal;
-    let current = s.current;
     let counts = s.counts;
-    let now = fewest_held(s.n, current, goal);
+    let now = s.remaining;
     let first = fewest_held(s.n, start, goal);
     Figures {
         counts,

@@ -2,19 +2,21 @@
 ghost use mathlib.Core.Bool.{true};
 ghost use mathlib.Core.Path.{_≡_};
 ghost use Prim.Native.Nat.{_<_, _≤_, _^_};
+ghost use lib.Dec.{eqb};
 ghost use lib.ListN.{take};
 ghost use Rattle.board.specs.Fewest.{fewest};
 ghost use Rattle.board.specs.Task.{limit};
 ghost use Rattle.plan.specs.Inner.Sound.{Ends};
 ghost use Rattle.session.specs.Counts.{countsAgree, marksAgree};
 ghost use Rattle.session.specs.Record.{firstOf, nowOf, positionsHeld, sound};
+use crate::counting::PLAY_LIMIT;
 use crate::record::Session;
 use board::LIMIT;
 use board::holds_position;
 use plan::crossing::plan_between;
 
 // The fewest moves between two positions.
-fn fewest_of(from: &[u8], to: &[u8]) -> u64
+pub fn fewest_of(from: &[u8], to: &[u8]) -> u64
     requires { ⌜ Ends (now from) (now to) ⌝ }
     ensures { λ r. ⌜ r ≡ fewest (now (from .entry)) (now (to .entry)) ⌝ }
     ensures { λ r. ⌜ r < 2 ^ limit ⌝ }
@@ -32,19 +34,28 @@ pub fn fewest_held(n: usize, from: [u8; LIMIT], to: [u8; LIMIT]) -> u64
     fewest_of(&from[..n], &to[..n])
 }
 
+// Whether what remains is the fewest from the current position to the goal.
+fn remaining_agrees(s: Session) -> bool
+    requires { ⌜ positionsHeld s ≡ true ⌝ }
+    ensures { λ r. ⌜ r ≡ eqb (s .remaining) (nowOf s) ⌝ }
+{
+    let goal = s.goal;
+    let current = s.current;
+    s.remaining == fewest_held(s.n, current, goal)
+}
+
 // Whether the plays toward and away account for the way from the start to the current position.
 fn marks_agree(s: Session) -> bool
     requires { ⌜ positionsHeld s ≡ true ⌝ }
     requires { ⌜ countsAgree (s .counts) ≡ true ⌝ }
+    requires { ⌜ s .remaining ≡ nowOf s ⌝ }
     ensures { λ r. ⌜ r ≡ marksAgree (s .counts) (nowOf s) (firstOf s) ⌝ }
 {
     let start = s.start;
     let goal = s.goal;
-    let current = s.current;
     let counts = s.counts;
-    let now = fewest_held(s.n, current, goal);
     let first = fewest_held(s.n, start, goal);
-    counts.toward + now == counts.away + first
+    counts.toward + s.remaining == counts.away + first
 }
 
 // Whether a record holds three positions of n discs.
@@ -67,7 +78,7 @@ fn holds_positions(s: Session) -> bool
     holds_position(n, current)
 }
 
-// Whether a record is sound.
+// Whether a record is sound. It works out two fewests: from the current position and from the start.
 pub fn is_sound(s: Session) -> bool
     ensures { λ r. ⌜ r ≡ sound s ⌝ }
 {
@@ -76,6 +87,12 @@ pub fn is_sound(s: Session) -> bool
     }
     let counts = s.counts;
     if !counts.agree() {
+        return false;
+    }
+    if PLAY_LIMIT < s.fumbles {
+        return false;
+    }
+    if !remaining_agrees(s) {
         return false;
     }
     marks_agree(s)

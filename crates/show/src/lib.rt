@@ -10,6 +10,7 @@ pub use answers::placed;
 pub use answers::planned;
 pub use answers::ran;
 pub use sessions::played;
+pub use sessions::record;
 pub use sessions::reported;
 pub use sessions::verdict;
 pub use words::named;

@@ -1,12 +1,16 @@
-// The answers of Begin, Play and Report.
+// The answers of Begin, Play and Report, and a session record.
+use crate::words::digits;
 use crate::words::named;
 use crate::words::refused;
 use crate::words::text;
+use board::LIMIT;
 use board::Verdict;
+use session::Counts;
 use session::Figures;
 use session::Mark;
 use session::Played;
 use session::Reported;
+use session::Session;
 
 // Begin's verdict.
 pub fn verdict(answer: Verdict) {
@@ -31,12 +35,15 @@ pub fn played(answer: Played) {
     }
 }
 
+fn counts(of: Counts) {
+    named(b"made ", of.made);
+    named(b", toward ", of.toward);
+    named(b", level ", of.level);
+    named(b", away ", of.away);
+}
+
 fn figures(f: Figures) {
-    let counts = f.counts;
-    named(b"made ", counts.made);
-    named(b", toward ", counts.toward);
-    named(b", level ", counts.level);
-    named(b", away ", counts.away);
+    counts(f.counts);
     named(b", remaining ", f.remaining);
     named(b", excess ", f.excess);
 }
@@ -46,4 +53,30 @@ pub fn reported(answer: Reported) {
         Reported::Report(f) => figures(f),
         Reported::Refused(why) => refused(why),
     }
+}
+
+// A position of n discs as a record holds it, or the whole array where n is more than there can be.
+fn held(name: &[u8], n: usize, position: [u8; LIMIT]) {
+    text(name);
+    if n <= LIMIT {
+        digits(&position[..n]);
+    } else {
+        digits(&position);
+    }
+}
+
+// A session record, field by field.
+pub fn record(s: Session) {
+    let n = s.n;
+    let start = s.start;
+    let goal = s.goal;
+    let current = s.current;
+    named(b"n ", n as u64);
+    held(b", start ", n, start);
+    held(b", goal ", n, goal);
+    held(b", current ", n, current);
+    text(b", ");
+    counts(s.counts);
+    named(b", fumbles ", s.fumbles);
+    named(b", remaining ", s.remaining);
 }

@@ -6,10 +6,10 @@ use Rattle.plays.proofs.limit.played_out.Statement.{statement}
 use Rattle.plays.proofs.limit.played_out.Tie as tie
 
 abbrev Inv-loop : tie.InvT-loop
-Inv-loop held₀ peg₀ count₀ held peg count = count ≤ 1000000
+Inv-loop round held₀ peg₀ count₀ held peg count = count ≤ 1000000
 
 abbrev μ-loop : tie.MeasureT-loop
-μ-loop held₀ peg₀ count₀ held peg count = 1000000 - count
+μ-loop round held₀ peg₀ count₀ held peg count = 1000000 - count
 
 loop-holds : tie.Need-loop-holds Inv-loop μ-loop
 loop-holds c = omega arith

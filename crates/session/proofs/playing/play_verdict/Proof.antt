@@ -2,7 +2,7 @@
 use mathlib.Core.Bool.{true}
 use mathlib.Core.Path.{_≡_, _∙_, sym}
 use borrow.Author.Needs.{needs}
-use borrow.Author.Tests.{eq-eqb, ne-eqb, not-true, not-false}
+use borrow.Author.Tests.{not-true, not-false}
 use Rattle.session.specs.Answer.{playCheck}
 use Rattle.session.specs.Record.{sound, PositionsHeld}
 use Rattle.session.proofs.Soundness.{Sized, sound-record, current-room, current-length}
@@ -28,10 +28,13 @@ returns : tie.Need-returns
 unfolding playCheck
 returns c = rw (sym (c .before .is-sound .ensures) ∙ not-true _ (c .if1 .taken))
 
--- No more plays are counted.
+is-full-requires : tie.Need-is-full-requires
+is-full-requires c κs = search needs
+
+-- No more plays are taken.
 returns-2 : tie.Need-returns-2
 unfolding playCheck
-returns-2 c = rw (passed (c .before .before .before), eq-eqb _ _ (c .if2 .taken))
+returns-2 c = rw (passed (c .before .before .before), sym (c .before .is-full .ensures) ∙ c .if2 .taken)
 
 array-share-prefix-current : tie.Need-array-share-prefix-current
 array-share-prefix-current c =
@@ -51,7 +54,7 @@ returns-3 : tie.Need-returns-3
 unfolding playCheck
 returns-3 c =
     let more = c .before .before .before in
-    rw (passed (more .before .before .before), ne-eqb _ _ (more .if2 .left)) (c .legal-verdict .ensures)
+    rw (passed (more .before .before .before), sym (more .before .is-full .ensures) ∙ more .if2 .left) (c .legal-verdict .ensures)
 
 pub play-verdict-spec : {M : Type 1} → statement M
 play-verdict-spec =
@@ -59,6 +62,7 @@ play-verdict-spec =
     (tie.spec
     is-sound-requires
     returns
+    is-full-requires
     returns-2
     array-share-prefix-current
     slice-aggregate-legal-verdict

@@ -2,9 +2,10 @@
 use mathlib.Core.Bool.{true}
 use mathlib.Core.Path.{_≡_, _∙_, sym}
 use borrow.Author.Needs.{needs}
-use borrow.Author.Tests.{not-true, not-false}
-use Rattle.session.specs.Counts.{countsAgree}
-use Rattle.session.specs.Record.{positionsHeld, sound}
+use borrow.Author.Tests.{eqb-true, le-leb, lt-leb, not-true, not-false}
+use lib.Dec.{eqb, leb}
+use Rattle.session.specs.Counts.{playLimit, countsAgree}
+use Rattle.session.specs.Record.{nowOf, positionsHeld, sound}
 use Rattle.session.proofs.sound.is_sound.Statement.{statement}
 use Rattle.session.proofs.sound.is_sound.Tie as tie
 
@@ -32,13 +33,53 @@ returns-2 c = rw (held (c .before .before .before), sym (c .before .agree .ensur
 agreed : (c : tie.Else2) → countsAgree (c .before .before .before .before .before .args .s .counts) ≡ true
 agreed c = sym (c .before .agree .ensures) ∙ not-false _ (c .if2 .left)
 
-marks-agree-requires : tie.Need-marks-agree-requires
-marks-agree-requires c κs = (held (c .before .before .before), agreed c)
-
--- The marks decide.
+-- The fumbles are too many.
 returns-3 : tie.Need-returns-3
 unfolding sound
-returns-3 c = rw (held (c .before .before .before .before), agreed (c .before)) (c .marks-agree .ensures)
+returns-3 c = rw (held (c .before .before .before .before .before), agreed (c .before .before), lt-leb _ _ (c .if3 .taken))
+
+-- They are not.
+few : (c : tie.Else3) → leb (c .before .before .before .before .before .before .before .args .s .fumbles) playLimit ≡ true
+few c = le-leb _ _ (c .if3 .left)
+
+remaining-agrees-requires : tie.Need-remaining-agrees-requires
+remaining-agrees-requires c κs = held (c .before .before .before .before .before)
+
+-- What remains is not the fewest.
+returns-4 : tie.Need-returns-4
+unfolding sound
+returns-4 c =
+    let else = c .before .before in
+    rw (
+      held (else .before .before .before .before .before),
+      agreed (else .before .before),
+      few else,
+      sym (c .before .remaining-agrees .ensures) ∙ not-true _ (c .if4 .taken),
+    )
+
+-- It is.
+remains : (c : tie.Else4) →
+    let s = c .before .before .before .before .before .before .before .before .before .args .s in
+    eqb (s .remaining) (nowOf s) ≡ true
+remains c = sym (c .before .remaining-agrees .ensures) ∙ not-false _ (c .if4 .left)
+
+marks-agree-requires : tie.Need-marks-agree-requires
+marks-agree-requires c κs =
+    let else = c .before .before in
+    (held (else .before .before .before .before .before), (agreed (else .before .before), eqb-true _ _ (remains c)))
+
+-- The marks decide.
+returns-5 : tie.Need-returns-5
+unfolding sound
+returns-5 c =
+    let else = c .before .before .before in
+    rw (
+      held (else .before .before .before .before .before),
+      agreed (else .before .before),
+      few else,
+      remains (c .before),
+    )
+    (c .marks-agree .ensures)
 
 pub is-sound-spec : {M : Type 1} → statement M
 is-sound-spec =
@@ -48,5 +89,8 @@ is-sound-spec =
     returns
     agree-requires
     returns-2
+    returns-3
+    remaining-agrees-requires
+    returns-4
     marks-agree-requires
-    returns-3)
+    returns-5)

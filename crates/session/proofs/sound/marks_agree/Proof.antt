@@ -1,6 +1,7 @@
 -- `session::sound::marks_agree` meets its contract: the positions are ends, and the sums fit. Assumes nothing.
 use native.Mathlib.Omega.{arith}
 use borrow.Author.Needs.{needs}
+use Rattle.plan.proofs.Sound.{ends-fewest, ends-fit}
 use Rattle.session.specs.Counts.{marksAgree}
 use Rattle.session.specs.Record.{PositionsHeld}
 use Rattle.session.proofs.Account.{counts-sum, counts-few}
@@ -17,40 +18,38 @@ positions c = positions-held (c .args .s) (c .pre .0)
 
 fewest-held-requires : tie.Need-fewest-held-requires
 fewest-held-requires c κs =
-    let at = c .before .before .before .before in
-    (positions at .few, current-ends (sized at) (positions at))
-
-fewest-held-requires-2 : tie.Need-fewest-held-requires-2
-fewest-held-requires-2 c κs =
-    let at = c .before .before .before .before .before in
+    let at = c .before .before .before in
     (positions at .few, start-ends (sized at) (positions at))
 
 -- The counts are few, and the fewest are far below what 64 bits hold.
 add-result : tie.Need-add-result
 add-result c =
-    let at = c .before .before .before .before .before .before .before in
+    let at = c .before .before .before .before .before .before in
+    let ends = current-ends (sized at) (positions at) in
     omega (
       arith,
-      counts-sum (at .args .s .counts) (at .pre .1),
-      counts-few (at .args .s .counts) (at .pre .1),
-      c .before .before .fewest-held .ensures .1,
+      counts-sum (at .args .s .counts) (at .pre .1 .0),
+      counts-few (at .args .s .counts) (at .pre .1 .0),
+      at .pre .1 .1,
+      ends-fewest ends,
+      ends-fit ends,
     )
 
 add-result-2 : tie.Need-add-result-2
 add-result-2 c =
-    let at = c .before .before .before .before .before .before .before .before in
+    let at = c .before .before .before .before .before .before .before in
     omega (
       arith,
-      counts-sum (at .args .s .counts) (at .pre .1),
-      counts-few (at .args .s .counts) (at .pre .1),
-      c .before .before .fewest-held2 .ensures .1,
+      counts-sum (at .args .s .counts) (at .pre .1 .0),
+      counts-few (at .args .s .counts) (at .pre .1 .0),
+      c .before .before .before .fewest-held .ensures .1,
     )
 
 returns : tie.Need-returns
 unfolding marksAgree
-returns c = rw (c .before .before .fewest-held2 .ensures .0, c .before .before .before .fewest-held .ensures .0)
+returns c =
+    let first = c .before .before .before in
+    rw (← first .before .before .before .before .pre .1 .1, first .fewest-held .ensures .0)
 
 pub marks-agree-spec : {M : Type 1} → statement M
-marks-agree-spec =
-    tie.close
-    (tie.spec fewest-held-requires fewest-held-requires-2 add-result add-result-2 returns)
+marks-agree-spec = tie.close (tie.spec fewest-held-requires add-result add-result-2 returns)
