@@ -46,7 +46,7 @@ fumble-most k = by (eqb k 8) (eqb k 9)
 pub full-exactly : (c : Counts) (fumbles : ℕ) → (full c fumbles ≡ true) ↔ Full c fumbles
 unfolding full
 full-exactly c fumbles =
-    either (eqb (c .made) playLimit) (eqb fumbles playLimit) (eqb-true _ _, eq-eqb _ _) (eqb-true _ _, eq-eqb _ _)
+    either (eqb (c .made) playLimit) _ (eqb-true _ _, eq-eqb _ _) (eqb-true _ _, eq-eqb _ _)
 
 pub not-full : (c : Counts) (fumbles : ℕ) → (full c fumbles ≡ false) ↔ (¬ Full c fumbles)
 not-full c fumbles = ((λ e h. true≢false (sym (full-exactly c fumbles .1 h) ∙ e)), by (full c fumbles) refl)

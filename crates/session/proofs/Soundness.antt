@@ -6,7 +6,7 @@ use mathlib.Core.Logic.{_↔_}
 use mathlib.Core.Path.{_≡_}
 use native.Mathlib.Omega.{arith}
 use borrow.Author.Tests.{eqb-true, eq-eqb, leb-true, le-leb}
-use lib.Dec.{eqb, leb}
+use lib.Dec.{leb}
 use lib.ListN.{length, take}
 use lib.Seq.{length-take-le}
 use Rattle.board.specs.Held.{holdsPosition, HoldsPosition}
@@ -14,7 +14,7 @@ use Rattle.board.specs.Task.{limit}
 use Rattle.board.proofs.Arrays.{holds-exactly, held-formed}
 use Rattle.plan.specs.Inner.Sound.{Ends}
 use Rattle.plan.proofs.Sound.{ends-fewest, ends-fit}
-use Rattle.session.specs.Counts.{playLimit, countsAgree}
+use Rattle.session.specs.Counts.{countsAgree}
 use Rattle.session.specs.Record.{startOf, goalOf, currentOf, firstOf, nowOf, positionsHeld, sound, PositionsHeld, Sound}
 use Rattle.session.specs.declared.record.Session.{Session}
 use Rattle.session.proofs.Account.{account-counts, account-marks, account-exactly}
@@ -51,10 +51,10 @@ positions-exactly s = (positions-held s, held-positions s)
 pub sound-record : (s : Session) → sound s ≡ true → Sound s
 unfolding sound
 sound-record s h =
-    let (held, h₁) = and-eq-true-iff (positionsHeld s) _ .0 h in
-    let (counts, h₂) = and-eq-true-iff (countsAgree (s .counts)) _ .0 h₁ in
-    let (fumbles, h₃) = and-eq-true-iff (leb (s .fumbles) playLimit) _ .0 h₂ in
-    let (remaining, marks) = and-eq-true-iff (eqb (s .remaining) (nowOf s)) _ .0 h₃ in
+    let (held, h₁) = and-eq-true-iff _ _ .0 h in
+    let (counts, h₂) = and-eq-true-iff _ _ .0 h₁ in
+    let (fumbles, h₃) = and-eq-true-iff _ _ .0 h₂ in
+    let (remaining, marks) = and-eq-true-iff _ _ .0 h₃ in
     record {
       positions = positions-held s held;
       account = account-exactly .0 (and-eq-true-iff (countsAgree (s .counts)) _ .1 (counts, marks));

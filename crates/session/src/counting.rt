@@ -54,10 +54,7 @@ pub fn fumble(why: Refusal) -> u64
     if refusal == 8 {
         return 1;
     }
-    if refusal == 9 {
-        return 1;
-    }
-    0
+    if refusal == 9 { 1 } else { 0 }
 }
 
 impl Counts {
