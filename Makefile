@@ -60,7 +60,7 @@ test: header $(OUT)/host-sanitized $(OUT)/agree
 	$(OUT)/agree
 	tests/tower.sh
 
-# Calls that C does not get, for the bench alone. It comes after the library, so that two `rt` do not prove at once.
+# Calls that C does not get, for the bench alone. Their library comes after ours, so that two `rt` do not prove at once.
 $(PACE): $(PACE_SOURCES) | $(LIBRARY)
 	$(RT) staticlib pace
 	@touch $@

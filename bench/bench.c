@@ -152,7 +152,8 @@ static void bench_parts(const char *label, size_t bytes, uint8_t *out)
     row(label, ours, theirs, "million letters a second");
 }
 
-/* Makes the plays on a bare position. A record is checked by the fewest from its start and from where it stands; the mark takes one more. */
+/* Makes the plays on a bare position. A record is checked by the fewest from its start and from where it stands; the mark takes one
+ * more. */
 static uint64_t three_fewests(const uint8_t *task, size_t len, const uint8_t *plays, size_t plays_len)
 {
     uint8_t held[2 * TOWER_LIMIT];

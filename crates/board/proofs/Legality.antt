@@ -14,7 +14,7 @@ use Rattle.board.specs.Legal.{legalCheck}
 use Rattle.board.specs.Move.{Move, Legal, top}
 use Rattle.board.specs.Position.{peg}
 use Rattle.board.specs.Reply.{pass}
-use Rattle.board.proofs.Obeys.{check-obeys, then-obeys}
+use Rattle.board.proofs.Obeys.{either, check-obeys, then-obeys}
 use Rattle.board.proofs.Replies.{check-passed, check-answered}
 use Rattle.board.proofs.Top.{top-le, top-on, top-before, top-none}
 
@@ -79,14 +79,6 @@ empty-exactly p i = (
   where
     top-past : (d : ℕ) → d < length p → peg p d ≡ i → top p i ≡ length p → ⊥
     top-past d l on e = top-before p i d (omega arith) on
-
--- One of two tests passes exactly where one of two facts holds.
-pub either : (a b : Bool) {P Q : Type 0} → (a ≡ true) ↔ P → (b ≡ true) ↔ Q → ((a || b) ≡ true) ↔ (P ⊎ Q)
-either true b p q = ((λ e. inl (p .0 refl)), λ s. refl)
-either false b p q = (
-  (λ e. inr (q .0 e)),
-  λ s. elim s [ inl h ↦ absurd (true≢false (sym (p .1 h))) | inr h ↦ q .1 h ],
-)
 
 -- A move is refused with 3, 8 and 9 as its faults say.
 pub legal-obeys : (p : List ℕ) (m : Move) → Obeys (legalFaults p m) (legalCheck p m)

@@ -1,12 +1,26 @@
--- Checks obey the faults that they look for, one after another: the laws by which demand 1 is shown of each call.
+-- Checks obey the faults that they look for, one after another: the laws by which demand 1 is shown of each call. Before them, laws of
+-- tests and the facts that they find.
 use Prim.Native.Nat.{ℕ}
-use mathlib.Core.Bool.{Bool, true, false, false≢true}
+use mathlib.Core.Bool.{Bool, true, false, _||_, true≢false, false≢true}
 use mathlib.Core.List.{List, [], _∷_, _++_}
 use mathlib.Core.Logic.{_⊎_, inl, inr, _↔_}
 use mathlib.Core.Path.{_≡_, refl, sym}
 use Rattle.board.specs.Fault.{Fault, fault, First, Faultless, Obeys}
 use Rattle.board.specs.Reply.{Reply, refused, answer, _>>_, Check, pass, check}
 use Rattle.board.proofs.Replies.{refused-answer}
+
+-- A test fails exactly where the fact that it finds does not hold.
+pub fails : (test : Bool) {P : Type 0} → (test ≡ true) ↔ P → (test ≡ false) ↔ (¬ P)
+fails true found = ((λ e. absurd (true≢false e)), λ n. absurd (n (found .0 refl)))
+fails false found = ((λ e h. false≢true (found .1 h)), λ n. refl)
+
+-- One of two tests passes exactly where one of two facts holds.
+pub either : (a b : Bool) {P Q : Type 0} → (a ≡ true) ↔ P → (b ≡ true) ↔ Q → ((a || b) ≡ true) ↔ (P ⊎ Q)
+either true b p q = ((λ e. inl (p .0 refl)), λ s. refl)
+either false b p q = (
+  (λ e. inr (q .0 e)),
+  λ s. elim s [ inl h ↦ absurd (true≢false (sym (p .1 h))) | inr h ↦ q .1 h ],
+)
 
 -- A value obeys no faults.
 pub answer-obeys : {A : Type 0} (a : A) → Obeys [] (answer a)

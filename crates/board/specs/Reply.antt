@@ -1,5 +1,5 @@
 -- What a call replies (document 01, "The operations and when each refuses"): a refusal is its number alone, and lent bytes are then as
--- they stood.
+-- they stood, but for the fumbles of a session's record (02, CR 3).
 use Prim.Native.Nat.{ℕ}
 use mathlib.Core.Bool.{Bool, true, false}
 use mathlib.Core.List.{List, _++_}

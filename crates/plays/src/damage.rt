@@ -28,7 +28,7 @@ fn positions(session: Session) {
     shown(b"a used byte of current is 3", used);
 }
 
-// Damaged counts: n is 61, or one of the counts is one more.
+// A damaged n, and damaged counts: n is 61, or one of the counts is one more.
 fn numbers(session: Session) {
     let mut n = session;
     n.n = 61;
@@ -47,8 +47,8 @@ fn numbers(session: Session) {
     shown(b"away is one more", away);
 }
 
-// Damaged numbers beside the counts: what remains is one more or one less than the fewest, and more fumbles than a record counts.
-fn beside(session: Session) {
+// What remains is one more or one less than the fewest, and there are more fumbles than a record counts.
+fn fumbles_and_remaining(session: Session) {
     let mut more = session;
     more.remaining = 3;
     shown(b"remaining is one more", more);
@@ -80,6 +80,6 @@ pub fn records() {
     shown(b"a sound record", session);
     positions(session);
     numbers(session);
-    beside(session);
+    fumbles_and_remaining(session);
     sums(session);
 }

@@ -19,21 +19,27 @@ fn moves(session: Session) {
     around(session, 0, 1);
 }
 
-// The refusals of a record: 10, 11 for the plays made and 11 for the fumbles. Legal and illegal moves are refused alike.
+// A legal move and one that would be refused with 9.
+fn both(session: Session) {
+    around(session, 0, 1);
+    around(session, 0, 2);
+}
+
+// The refusals of a record: 10 for what remains and for the fumbles, 11 for the plays made and for the fumbles.
 fn records(session: Session) {
     let mut damaged = session;
     damaged.remaining = 1;
-    around(damaged, 0, 1);
-    around(damaged, 0, 2);
+    both(damaged);
+    let mut beyond = session;
+    beyond.fumbles = 1000001;
+    both(beyond);
     let mut full = session;
     full.counts.made = 1000000;
     full.counts.level = 999999;
-    around(full, 0, 1);
-    around(full, 0, 2);
+    both(full);
     let mut fumbled = session;
     fumbled.fumbles = 1000000;
-    around(fumbled, 0, 1);
-    around(fumbled, 0, 2);
+    both(fumbled);
 }
 
 // On [1, 0] to [0, 1] after B to C.

@@ -2,7 +2,7 @@
 use Prim.Native.Nat.{ℕ, _+_, _≤_}
 use mathlib.Core.Bool.{true}
 use mathlib.Core.List.{List, _++_}
-use mathlib.Core.Logic.{inl}
+use mathlib.Core.Logic.{_≢_}
 use mathlib.Core.Path.{_≡_, _∙_, refl, sym, ap}
 use native.Mathlib.Omega.{arith}
 use lib.ListN.{length, length-append}
@@ -21,7 +21,7 @@ use Rattle.board.proofs.Tasks.{SoundTask, sound-task, joined-task}
 use Rattle.board.proofs.Top.{length-moved}
 use Rattle.plan.proofs.OneMove.{moved-further, moved-nearer}
 use Rattle.session.specs.Answer.{opened, playCheck, moveMark, playAnswer, playedRecord, refusedRecord, recordOr, playLeaves, reportAnswer}
-use Rattle.session.specs.Counts.{playLimit, fumble, full, Full, Account}
+use Rattle.session.specs.Counts.{playLimit, fumble, full, Account}
 use Rattle.session.specs.Record.{startOf, goalOf, currentOf, sound, Sound}
 use Rattle.session.specs.Sessions.{heldBy, recordReply, recordNext}
 use Rattle.session.specs.Tally.{Call, play, report, marked, Tally, fresh, tallyCheck, tallyMark, playedTally, refusedTally, tallyOr, tallied, tallyReply}
@@ -43,14 +43,14 @@ pub record Agrees (t : List ℕ) (y : Tally) (s : Session) : Type 0 where
 
 -- What a play that the tally accepts finds: it is not full, and the move is legal.
 pub record Accepts (y : Tally) (m : Move) : Type 0 where
-  pub more : ¬ Full (y .counts) (y .fumbles)
+  pub more : y .counts .made ≢ playLimit
   pub legal : Legal (y .position) m
 
 pub tally-accepts : (y : Tally) (m : Move) → tallyCheck y m ≡ pass → Accepts y m
 unfolding tallyCheck
 tally-accepts y m h =
     let (more, rest) = check-answered (full (y .counts) (y .fumbles)) 11 _ h in
-    record { more = not-full (y .counts) (y .fumbles) .0 more; legal = legal-accepted (y .position) m rest }
+    record { more = not-full (y .counts) (y .fumbles) .0 more .0; legal = legal-accepted (y .position) m rest }
 
 -- After a play that the tally refuses its fumbles are few enough.
 tally-few : (y : Tally) (m : Move) {k : ℕ} → y .fumbles ≤ playLimit → tallyCheck y m ≡ refused k → y .fumbles + fumble k ≤ playLimit
@@ -144,7 +144,7 @@ module _ (t : List ℕ) (task : SoundTask t) where
           formed = formed-moved (y .position) m (a .formed) (p .legal);
           account =
               account-played (moved-further (y .position) (goal t) m same (a .formed) (task .goal-formed) (p .legal))
-              (moved-nearer (y .position) (goal t) m same (a .formed) (task .goal-formed) (p .legal)) (λ e. p .more (inl e)) (a .account);
+              (moved-nearer (y .position) (goal t) m same (a .formed) (task .goal-formed) (p .legal)) (p .more) (a .account);
           fumbles = a .fumbles;
           remaining = refl;
         }

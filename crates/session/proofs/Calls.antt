@@ -1,9 +1,9 @@
 -- What Begin, Play and Report answer, and when: demand 1 of them, and the laws for whoever calls them.
 use Prim.Native.Nat.{ℕ, _+_, _<_, _^_}
-use mathlib.Core.Bool.{Bool, true, false, not, true≢false}
+use mathlib.Core.Bool.{Bool, true, false, not}
 use mathlib.Core.List.{List, append-nil}
-use mathlib.Core.Logic.{_↔_}
-use mathlib.Core.Path.{_≡_, _∙_, refl, sym}
+use mathlib.Core.Logic.{_≢_, _↔_}
+use mathlib.Core.Path.{_≡_, refl}
 use native.Mathlib.Nat.{add-zero}
 use native.Mathlib.Omega.{arith}
 use borrow.Author.Tests.{not-true, not-false}
@@ -12,11 +12,11 @@ use Rattle.board.specs.Legal.{legalCheck}
 use Rattle.board.specs.Move.{Move, Legal}
 use Rattle.board.specs.Reply.{refused, answer, _>>_, pass, check}
 use Rattle.board.proofs.Legality.{legal-accepted, legal-passes, legal-obeys}
-use Rattle.board.proofs.Obeys.{answer-obeys, check-obeys, then-obeys}
+use Rattle.board.proofs.Obeys.{fails, answer-obeys, check-obeys, then-obeys}
 use Rattle.board.proofs.Replies.{then-answered, check-answered}
 use Rattle.board.proofs.Tasks.{faultless-accepted, task-obeys}
 use Rattle.session.specs.Answer.{opened, beginAnswer, noSession, sessionOr, playCheck, moveMark, playAnswer, playedRecord, playLeaves, reportAnswer}
-use Rattle.session.specs.Counts.{fumble, full, Full, figuresOf}
+use Rattle.session.specs.Counts.{playLimit, fumble, full, figuresOf}
 use Rattle.session.specs.Demand3.{Reports}
 use Rattle.session.specs.Faults.{playFaults, Kept, reportFaults}
 use Rattle.session.specs.Record.{currentOf, firstOf, nowOf, positionsHeld, sound, Sound}
@@ -25,15 +25,13 @@ use Rattle.session.specs.declared.counting.Mark.{Mark}
 use Rattle.session.specs.declared.record.Session.{Session}
 use Rattle.session.proofs.Account.{account-excess}
 use Rattle.session.proofs.Fumbles.{fumble-one, fumble-none, full-exactly, not-full, fumbles-few}
-use Rattle.session.proofs.Soundness.{sound-record, record-sound}
+use Rattle.session.proofs.Soundness.{sound-record, record-sound, sound-exactly}
 
 -- The test fails exactly where the record is not sound.
 unsound : (s : Session) → (not (sound s) ≡ true) ↔ (¬ Sound s)
-unsound s = ((λ e r. true≢false (sym (record-sound s r) ∙ not-true (sound s) e)), by (sound s) refl)
-  where
-    by : (b : Bool) → sound s ≡ b → ¬ Sound s → not b ≡ true
-    by true e n = absurd (n (sound-record s e))
-    by false e n = refl
+unsound s =
+    let (fails-there, there-fails) = fails (sound s) (sound-exactly s) in
+    ((λ e. fails-there (not-true (sound s) e)), λ n. rw (there-fails n))
 
 -- Begin is refused as the task faults say, and never else.
 pub begin-obeys : (t : List ℕ) → Obeys (taskFaults t) (beginAnswer t)
@@ -64,7 +62,7 @@ play-kept s m {k} e =
       kept = λ no-8 no-9. rw (e, fumble-none k no-8 no-9, add-zero);
     }
 
--- Its fumbles fit 64 bits.
+-- The fumbles after it fit 64 bits: what the proof of `step` needs.
 pub play-fits : (s : Session) (m : Move) {k : ℕ} → s .fumbles < 2 ^ 64 → playCheck s m ≡ refused k → s .fumbles + fumble k < 2 ^ 64
 unfolding playCheck
 play-fits s m {k} fits e = by (sound s) refl e
@@ -95,10 +93,11 @@ no-session-reports = rw no-session-unsound
 pub begin-refused : (t : List ℕ) {k : ℕ} → beginAnswer t ≡ refused k → sessionOr (beginAnswer t) ≡ noSession
 begin-refused t e = rw e
 
--- What a play that is marked finds: a sound record that is not full, and a legal move.
+-- What a play that is marked finds: a sound record with room for plays and fumbles, and a legal move.
 pub record PlayAccepted (s : Session) (m : Move) : Type 0 where
   pub sounds : Sound s
-  pub more : ¬ Full (s .counts) (s .fumbles)
+  pub more : s .counts .made ≢ playLimit
+  pub more-fumbles : s .fumbles ≢ playLimit
   pub legal : Legal (currentOf s) m
 
 pub play-passed : (s : Session) (m : Move) → playCheck s m ≡ pass → PlayAccepted s m
@@ -108,16 +107,20 @@ play-passed s m h =
     let (more, last) = check-answered (full (s .counts) (s .fumbles)) 11 _ rest in
     record {
       sounds = sound-record s (not-false (sound s) sounds);
-      more = not-full (s .counts) (s .fumbles) .0 more;
+      more = not-full (s .counts) (s .fumbles) .0 more .0;
+      more-fumbles = not-full (s .counts) (s .fumbles) .0 more .1;
       legal = legal-accepted (currentOf s) m last;
     }
 
--- A legal move on a sound record that is not full is marked.
-pub play-accepts : (s : Session) (m : Move) → Sound s → ¬ Full (s .counts) (s .fumbles) → Legal (currentOf s) m
-    → playAnswer s m ≡ answer (moveMark s m)
+-- Such a play is marked.
+pub play-accepts : (s : Session) (m : Move) → PlayAccepted s m → playAnswer s m ≡ answer (moveMark s m)
 unfolding playAnswer playCheck
-play-accepts s m sounds more legal =
-    rw (record-sound s sounds, not-full (s .counts) (s .fumbles) .1 more, legal-passes (currentOf s) m legal)
+play-accepts s m p =
+    rw (
+      record-sound s (p .sounds),
+      not-full (s .counts) (s .fumbles) .1 (p .more, p .more-fumbles),
+      legal-passes (currentOf s) m (p .legal),
+    )
 
 -- Its mark, and the record after it.
 pub record PlayAnswered (s : Session) (m : Move) (k : Mark) : Type 0 where

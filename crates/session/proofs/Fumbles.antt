@@ -1,16 +1,16 @@
--- Laws of fumbles: what a refusal adds to them, when a record is full, and that they stay few enough. They know a refusal by its number, and
--- nothing of pegs and discs.
+-- Laws of fumbles: what a refusal adds to them, when a record is full, and that they stay few enough. They know a refusal by its number,
+-- and nothing of pegs and discs.
 use Prim.Native.Nat.{ℕ, _+_, _≤_}
-use mathlib.Core.Bool.{Bool, true, false, cond, true≢false}
+use mathlib.Core.Bool.{Bool, true, false, cond}
 use mathlib.Core.Logic.{_≢_, _⊎_, inl, inr, _↔_}
-use mathlib.Core.Path.{_≡_, _∙_, refl, sym}
+use mathlib.Core.Path.{_≡_, refl}
 use native.Mathlib.Decide.{ℕ-discrete}
 use native.Mathlib.Omega.{arith}
 use borrow.Author.Tests.{eqb-true, eq-eqb, ne-eqb}
 use lib.Dec.{eqb}
 use Rattle.board.specs.Reply.{refused, _>>_, Check, check}
-use Rattle.board.proofs.Legality.{either}
-use Rattle.session.specs.Counts.{playLimit, fumble, full, Full}
+use Rattle.board.proofs.Obeys.{fails, either}
+use Rattle.session.specs.Counts.{playLimit, fumble, full}
 use Rattle.session.specs.declared.counting.Counts.{Counts}
 
 -- Refused with 8 or 9, a play adds one.
@@ -34,34 +34,35 @@ fumble-both k =
     ]
 
 -- It adds at most one.
-pub fumble-most : (k : ℕ) → fumble k ≤ 1
-fumble-most k = by (eqb k 8) (eqb k 9)
-  where
-    by : (a b : Bool) → cond a 1 (cond b 1 0) ≤ 1
-    by true b = omega arith
-    by false true = omega arith
-    by false false = omega arith
+fumble-most : (k : ℕ) → fumble k ≤ 1
+fumble-most k =
+    elim (ℕ-discrete k 8) [
+      | yes e ↦ rw (fumble-one k (inl e)) (omega arith)
+      | no n ↦ elim (ℕ-discrete k 9) [
+        | yes e ↦ rw (fumble-one k (inr e)) (omega arith)
+        | no o ↦ rw (fumble-none k n o) (omega arith)
+      ]
+    ]
 
--- A record is full exactly where its plays or its fumbles are as many as are counted.
-pub full-exactly : (c : Counts) (fumbles : ℕ) → (full c fumbles ≡ true) ↔ Full c fumbles
-unfolding full
-full-exactly c fumbles =
-    either (eqb (c .made) playLimit) _ (eqb-true _ _, eq-eqb _ _) (eqb-true _ _, eq-eqb _ _)
+module _ (c : Counts) (fumbles : ℕ) where
+  -- A record is full exactly where made or the fumbles stand at the limit.
+  pub full-exactly : (full c fumbles ≡ true) ↔ ((c .made ≡ playLimit) ⊎ (fumbles ≡ playLimit))
+  unfolding full
+  full-exactly = either (eqb (c .made) playLimit) _ (eqb-true _ _, eq-eqb _ _) (eqb-true _ _, eq-eqb _ _)
 
-pub not-full : (c : Counts) (fumbles : ℕ) → (full c fumbles ≡ false) ↔ (¬ Full c fumbles)
-not-full c fumbles = ((λ e h. true≢false (sym (full-exactly c fumbles .1 h) ∙ e)), by (full c fumbles) refl)
-  where
-    by : (b : Bool) → full c fumbles ≡ b → ¬ Full c fumbles → b ≡ false
-    by true e n = absurd (n (full-exactly c fumbles .0 e))
-    by false e n = refl
+  -- And it is not where neither does.
+  pub not-full : (full c fumbles ≡ false) ↔ ((c .made ≢ playLimit) × (fumbles ≢ playLimit))
+  not-full =
+      let (neither, none) = fails (full c fumbles) full-exactly in (
+        (λ e. ((λ h. neither e (inl h)), λ h. neither e (inr h))),
+        λ n. none (λ s. elim s [ inl h ↦ n .0 h | inr h ↦ n .1 h ]),
+      )
 
--- Refused with 11 a play adds none, and past it the fumbles have room for one: so they stay few enough.
-pub fumbles-few : (c : Counts) (fumbles : ℕ) (rest : Check) {k : ℕ} → fumbles ≤ playLimit
-    → (check (full c fumbles) 11 >> rest) ≡ refused k → fumbles + fumble k ≤ playLimit
-fumbles-few c fumbles rest {k} few e = by (full c fumbles) refl e
-  where
-    by : (b : Bool) → full c fumbles ≡ b → (check b 11 >> rest) ≡ refused k → fumbles + fumble k ≤ playLimit
-    by true f r = let is : k ≡ 11 = cc in rw is (omega arith)
-    by false f r =
-        let room : fumbles ≢ playLimit = λ h. not-full c fumbles .0 f (inr h) in
-        omega (arith, few, room, fumble-most k)
+  -- Refused with 11 a play adds none, and past it the fumbles have room for one: so they stay few enough.
+  pub fumbles-few : (rest : Check) {k : ℕ} → fumbles ≤ playLimit → (check (full c fumbles) 11 >> rest) ≡ refused k
+      → fumbles + fumble k ≤ playLimit
+  fumbles-few rest {k} few e = by (full c fumbles) refl e
+    where
+      by : (b : Bool) → full c fumbles ≡ b → (check b 11 >> rest) ≡ refused k → fumbles + fumble k ≤ playLimit
+      by true f r = let is : k ≡ 11 = cc in rw is (omega arith)
+      by false f r = omega (arith, few, not-full .0 f .1, fumble-most k)

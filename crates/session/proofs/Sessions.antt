@@ -1,4 +1,5 @@
--- Over any list of calls: the session agrees with the tally, and its plays lead to where it stands and account for its counts.
+-- Over any list of calls: the session agrees with the tally, its plays lead to where it stands and account for its counts, and its refused
+-- plays for its fumbles.
 use Prim.Native.Nat.{ℕ, _+_}
 use mathlib.Core.List.{List, [], _∷_, _++_, map}
 use mathlib.Core.Path.{_≡_, _∙_, refl, sym, ap, ap₂, subst}

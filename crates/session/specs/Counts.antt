@@ -1,7 +1,6 @@
 -- The counts of a session, and what a play and a report make of them (document 01, Begin, Play and Report; 02, CR 2 and CR 3).
 use Prim.Native.Nat.{ℕ, _+_, _-_, _*_, _≤_}
 use mathlib.Core.Bool.{Bool, cond, _&&_, _||_}
-use mathlib.Core.Logic.{_⊎_}
 use mathlib.Core.Path.{_≡_}
 use lib.Dec.{eqb, ltb, leb}
 use Rattle.session.specs.declared.counting.Counts.{Counts}
@@ -50,10 +49,6 @@ fumble k = cond (eqb k 8) 1 (cond (eqb k 9) 1 0)
 -- The test that no more plays are taken (document 01, Play; 02, CR 3): made or the fumbles stand at 1,000,000.
 unfoldable pub full : Counts → ℕ → Bool
 full c fumbles = eqb (c .made) playLimit || eqb fumbles playLimit
-
--- The same as a proposition. The law `full-exactly` (proofs/Fumbles) says that the test passes exactly here.
-abbrev pub Full : Counts → ℕ → Type 0
-Full c fumbles = (c .made ≡ playLimit) ⊎ (fumbles ≡ playLimit)
 
 -- The test that the counts add up: made = toward + level + away, and made is at most 1,000,000.
 unfoldable pub countsAgree : Counts → Bool

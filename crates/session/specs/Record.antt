@@ -36,8 +36,8 @@ positionsHeld s =
     && (holdsPosition (s .n) (s .goal)
     && holdsPosition (s .n) (s .current)))
 
--- The test that a record is sound: its positions are, its fumbles are few enough, what remains is the fewest from where it stands, and its
--- counts account for them.
+-- The test that a record is sound: its positions are, its counts add up, its fumbles are few enough, what remains is the fewest from where
+-- it stands, and its marks account for the way there.
 unfoldable pub sound : Session → Bool
 sound s =
     positionsHeld s

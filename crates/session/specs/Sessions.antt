@@ -1,4 +1,4 @@
--- A list of calls on a record: the replies, the record at the end, and the plays that were accepted.
+-- A list of calls on a record: the replies, the record at the end, the plays that were accepted, and how many were refused.
 use Prim.Native.Nat.{ℕ, _+_}
 use mathlib.Core.Bool.{cond}
 use mathlib.Core.List.{List, [], _∷_}

@@ -58,6 +58,7 @@ abbrev pub refusedTally : Tally → ℕ → Tally
 refusedTally y k =
     record { position = y .position; counts = y .counts; fumbles = y .fumbles + fumble k; remaining = y .remaining }
 
+-- The one or the other, as the check says.
 abbrev pub tallyOr : Check → Tally → Tally → Tally
 tallyOr (refused k) after before = refusedTally before k
 tallyOr (answer u) after before = after

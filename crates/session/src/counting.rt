@@ -85,7 +85,7 @@ impl Counts {
         counts
     }
 
-    // Whether no more plays are taken: the plays made or the fumbles are as many as are counted.
+    // Whether no more plays are taken: the plays made or the fumbles stand at the limit.
     pub fn is_full(self, fumbles: u64) -> bool
         ensures { λ r. ⌜ r ≡ full self fumbles ⌝ }
     {

@@ -76,8 +76,8 @@ fn accepted(s: Session, from: u8, to: u8) -> Stepped
     }
 }
 
-// Play on a record by value: the mark of a move, and the record after it. Refuses with 10, 11, 3, 8 and 9; with 8 and 9 the record then
-// has one fumble more, and else it is as it was.
+// Play on a record by value: the mark of a move, and the record after it. Refuses with 10, 11, 3, 8 and 9: after 8 and 9 the record has
+// one fumble more, after the others it is as it was.
 pub fn step(s: Session, from: u8, to: u8) -> Stepped
     ensures { λ r. ⌜ (playReply (r .played) ≡ playAnswer s (record { from = from; to = to }))
         × (r .session ≡ playLeaves s (record { from = from; to = to })) ⌝ }

@@ -2,8 +2,8 @@
 use crate::counting::Counts;
 use board::LIMIT;
 
-// n discs; the start, the goal and the current position, unused bytes 0; the counts; the plays refused with 8 or 9; the fewest moves
-// from current to goal.
+// n discs; the start, the goal and the current position, unused bytes 0; the counts; how many plays were refused with 8 or 9;
+// the fewest moves from current to goal.
 pub struct Session {
     pub n: usize,
     pub start: [u8; LIMIT],

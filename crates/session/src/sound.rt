@@ -41,7 +41,9 @@ fn remaining_agrees(s: Session) -> bool
 {
     let goal = s.goal;
     let current = s.current;
-    s.remaining == fewest_held(s.n, current, goal)
+    let remaining = s.remaining;
+    let now = fewest_held(s.n, current, goal);
+    remaining == now
 }
 
 // Whether the plays toward and away account for the way from the start to the current position.
@@ -78,7 +80,7 @@ fn holds_positions(s: Session) -> bool
     holds_position(n, current)
 }
 
-// Whether a record is sound. It works out two fewests: from the current position and from the start.
+// Whether a record is sound. At most two fewests are worked out: from the current position and from the start.
 pub fn is_sound(s: Session) -> bool
     ensures { λ r. ⌜ r ≡ sound s ⌝ }
 {

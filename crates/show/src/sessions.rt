@@ -35,11 +35,11 @@ pub fn played(answer: Played) {
     }
 }
 
-fn counts(of: Counts) {
-    named(b"made ", of.made);
-    named(b", toward ", of.toward);
-    named(b", level ", of.level);
-    named(b", away ", of.away);
+fn counts(c: Counts) {
+    named(b"made ", c.made);
+    named(b", toward ", c.toward);
+    named(b", level ", c.level);
+    named(b", away ", c.away);
 }
 
 fn figures(f: Figures) {
@@ -65,7 +65,7 @@ fn held(name: &[u8], n: usize, position: [u8; LIMIT]) {
     }
 }
 
-// A session record, field by field.
+// A session record, field by field, each position by its n discs.
 pub fn record(s: Session) {
     let n = s.n;
     let start = s.start;

@@ -18,7 +18,7 @@ fewest-held-requires c κs =
     (positions at .few, current-ends (sized at) (positions at))
 
 returns : tie.Need-returns
-returns c = rw (c .before .fewest-held .ensures .0)
+returns c = rw (c .fewest-held .ensures .0)
 
 pub remaining-agrees-spec : {M : Type 1} → statement M
 remaining-agrees-spec = tie.close (tie.spec fewest-held-requires returns)
