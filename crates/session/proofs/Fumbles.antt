@@ -22,7 +22,7 @@ fumble-one k (inr e) = rw e refl
 pub fumble-none : (k : ℕ) → k ≢ 8 → k ≢ 9 → fumble k ≡ 0
 fumble-none k no-8 no-9 = rw (ne-eqb k 8 no-8, ne-eqb k 9 no-9)
 
--- So it adds what counts of 8 and of 9 do together.
+-- So it adds what a count of 8 and a count of 9 add together.
 pub fumble-both : (k : ℕ) → fumble k ≡ cond (eqb k 8) 1 0 + cond (eqb k 9) 1 0
 fumble-both k =
     elim (ℕ-discrete k 8) [
