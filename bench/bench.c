@@ -1,7 +1,7 @@
 /* Measures the library beside tests/hinz.c in one run: the same inputs, alternating rounds, medians. Runs are measured beside both of
- * that file's: the one with the topmost disc of each peg and the disc beneath each disc, as the library's, and the one by counting. The
- * letters of Parts and the plays of a session, which are no C calls, come from crates/pace. Letters are measured beside a memset of as
- * many bytes, plays beside what each cannot do without: three fewests, of tests/hinz.c. */
+ * that file's: the one with the topmost disc of each peg and the disc beneath each disc, as the library's, and the one by counting.
+ * Move, Place, Locate, the letters of Parts and the plays of a session, which are no C calls, come from crates/pace. Letters are
+ * measured beside a memset of as many bytes, plays beside what each cannot do without: three fewests, of tests/hinz.c. */
 #include <inttypes.h>
 #include <stdio.h>
 #include <stdlib.h>
@@ -17,6 +17,13 @@ enum { ROUNDS = 101, TASKS = 4096, RUN_BYTES = 8 << 20, PARTS_CALLS = 16, PLAYS 
 typedef uint64_t shortest_fn(const uint8_t *task, size_t len);
 typedef uint64_t run_fn(const uint8_t *task, size_t len, uint64_t route, uint64_t first, uint8_t *out, size_t out_len);
 typedef uint64_t plays_fn(const uint8_t *task, size_t len, const uint8_t *plays, size_t plays_len);
+typedef uint64_t call_fn(size_t i);
+
+/* crates/pace: from and to of a move, as the two bytes of a number; 1 for a place; the index of a position that is on route 0. Each is 0
+ * where the call refuses. */
+uint64_t pace_move(const uint8_t *task, size_t len, uint64_t route, uint64_t index);
+uint64_t pace_place(const uint8_t *task, size_t len, uint64_t route, uint64_t index, uint8_t *out, size_t out_len);
+uint64_t pace_locate(const uint8_t *task, size_t len, const uint8_t *position, size_t position_len);
 
 /* crates/pace: how many letters Parts wrote, or 0 where it refuses. */
 uint64_t pace_parts(const uint8_t *task, size_t len, uint64_t route, uint64_t first, uint8_t *out, size_t out_len);
@@ -106,6 +113,75 @@ static void bench_run(const char *label, size_t bytes, uint8_t *out, run_fn *oth
         theirs[r] = time_run(other, first, out, bytes);
     }
     row(label, ours, theirs, "million moves a second");
+}
+
+/* Move and Place at an index of each task's route 0, and Locate of the position there. */
+static uint64_t indexes[TASKS];
+static uint8_t places[TASKS][TOWER_LIMIT], hinz_places[TASKS][TOWER_LIMIT];
+
+static uint64_t our_move(size_t i)
+{
+    return pace_move(tasks[i], 2 * TOWER_LIMIT, 0, indexes[i]);
+}
+
+static uint64_t their_move(size_t i)
+{
+    return hinz_move(tasks[i], 2 * TOWER_LIMIT, 0, indexes[i]);
+}
+
+static uint64_t our_place(size_t i)
+{
+    return pace_place(tasks[i], 2 * TOWER_LIMIT, 0, indexes[i], places[i], TOWER_LIMIT);
+}
+
+static uint64_t their_place(size_t i)
+{
+    return hinz_place(tasks[i], 2 * TOWER_LIMIT, 0, indexes[i], hinz_places[i], TOWER_LIMIT);
+}
+
+static uint64_t our_locate(size_t i)
+{
+    return pace_locate(tasks[i], 2 * TOWER_LIMIT, places[i], TOWER_LIMIT);
+}
+
+static uint64_t their_locate(size_t i)
+{
+    return hinz_locate(tasks[i], 2 * TOWER_LIMIT, places[i], TOWER_LIMIT);
+}
+
+/* Nanoseconds a call, one for each task. */
+static double time_calls(call_fn *f, uint64_t *answers)
+{
+    double begun = seconds();
+    for (size_t i = 0; i < TASKS; i++)
+        answers[i] = f(i);
+    return (seconds() - begun) * 1e9 / TASKS;
+}
+
+/* Answers and positions that differ are no measurement. */
+static void bench_calls(const char *label, call_fn *our, call_fn *their)
+{
+    static uint64_t answers[TASKS], hinz_answers[TASKS];
+    double ours[ROUNDS], theirs[ROUNDS];
+    for (int r = 0; r < ROUNDS; r++) {
+        ours[r] = time_calls(our, answers);
+        theirs[r] = time_calls(their, hinz_answers);
+    }
+    if (memcmp(answers, hinz_answers, sizeof answers) != 0 || memcmp(places, hinz_places, sizeof places) != 0) {
+        fprintf(stderr, "bench: %s: the answers differ\n", label);
+        exit(1);
+    }
+    row(label, ours, theirs, "ns a call");
+}
+
+static void bench_indexes(void)
+{
+    make_tasks(TOWER_LIMIT);
+    for (size_t i = 0; i < TASKS; i++)
+        indexes[i] = any() % hinz_shortest(tasks[i], 2 * TOWER_LIMIT);
+    bench_calls("move, 60 discs", our_move, their_move);
+    bench_calls("place, 60 discs", our_place, their_place);
+    bench_calls("locate, 60 discs", our_locate, their_locate);
 }
 
 /* As Parts fills the buffer, but with one letter. */
@@ -212,6 +288,9 @@ int main(void)
     bench_run("run, 4 MiB, by stacks", 4 << 20, out, hinz_run_stacks);
     bench_run("run, 64 KiB, by counting", 64 << 10, out, hinz_run);
     bench_run("run, 4 MiB, by counting", 4 << 20, out, hinz_run);
+    printf("Moves, places and locates, a round: %d random tasks of 60 discs, at a random index of each.\n", TASKS);
+    printf("%-28s %9s %9s %7s\n", "", "library", "hinz.c", "ratio");
+    bench_indexes();
     printf("Letters, a round: %d calls of parts into 4 MiB, from random indexes, 60 discs.\n", PARTS_CALLS);
     printf("%-28s %9s %9s %7s\n", "", "library", "memset", "ratio");
     bench_parts("parts, 4 MiB, by memset", 4 << 20, out);

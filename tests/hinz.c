@@ -1,7 +1,10 @@
 /* Hinz's rules in plain C. Lengths: one pass over both positions, with a table for the third peg and no branch on a peg. Runs: a route
  * is a list of tower shifts, a single move being the shift of a tower of one disc. In a shift, move j is that of the disc whose number
  * is one more than the trailing zeros of j, and each disc goes round the pegs in one direction; `hinz_run_stacks` has no use of that but
- * for disc 1, and keeps the topmost disc of each peg and the disc beneath each disc (001, section 1). */
+ * for disc 1, and keeps the topmost disc of each peg and the disc beneath each disc (001, section 1). A single move or position: one
+ * pass down the discs, by how many moves of a gathering are left. */
+#include <string.h>
+
 #include "hinz.h"
 
 enum { LIMIT = 60, BLOCKS = 4 * LIMIT + 3 };
@@ -48,11 +51,12 @@ uint64_t hinz_gather(const uint8_t *position, size_t n, uint8_t peg)
     return sum;
 }
 
-/* The largest disc that moves, 0 for none, its pegs, the third peg, and the lengths of the direct and the detour. */
+/* The largest disc that moves, 0 for none, its pegs, the third peg, the lengths of the direct and the detour, and of the gathering that
+ * each begins with. */
 struct plan {
     size_t m;
     unsigned a, b, c;
-    uint64_t direct, detour;
+    uint64_t direct, detour, to_c, to_b;
 };
 
 static struct plan plan_of(const uint8_t *start, const uint8_t *goal, size_t n)
@@ -81,6 +85,8 @@ static struct plan plan_of(const uint8_t *start, const uint8_t *goal, size_t n)
     }
     p.direct = to_c + 1 + from_c;
     p.detour = to_b + ((uint64_t)1 << (n - 1)) + 1 + from_a;
+    p.to_c = to_c;
+    p.to_b = to_b;
     return p;
 }
 
@@ -325,4 +331,174 @@ uint64_t hinz_run_stacks(const uint8_t *task, size_t len, uint64_t route, uint64
     for (; i < r.count && written < room; i++, first = 0)
         written += shift_stacks(&s, r.blocks[i], first, out + 2 * written, room - written);
     return written;
+}
+
+/* A place on a route: so many moves are left of gathering the k smallest discs on a target. They are gathered from a position or, as in a
+ * shift, from a tower on one peg, 3 for none. A spreading is the gathering of the goal's discs, backwards. */
+struct place {
+    const uint8_t *position;
+    unsigned tower, target;
+    size_t k;
+    uint64_t left;
+    int backwards;
+};
+
+/* The place after so many moves, of a plan in which a disc moves. */
+static struct place place_at(const uint8_t *start, const uint8_t *goal, const struct plan *p, int detour, uint64_t index)
+{
+    size_t k = p->m - 1;
+    struct place at = {start, 3, detour ? p->b : p->c, k, 0, 0};
+    uint64_t first = detour ? p->to_b : p->to_c, shift = ((uint64_t)1 << k) - 1;
+    if (index <= first) {
+        at.left = first - index;
+        return at;
+    }
+    index -= first + 1;
+    if (detour && index <= shift) {
+        at.tower = p->b;
+        at.target = p->a;
+        at.left = shift - index;
+        return at;
+    }
+    at.position = goal;
+    at.target = detour ? p->a : p->c;
+    at.left = detour ? index - shift - 1 : index;
+    at.backwards = 1;
+    return at;
+}
+
+/* Where the k smallest discs are. A disc that is not on its target waits while 2^d moves or more are left; then it is there, and the
+ * smaller ones follow it as a tower. */
+static void discs_at(struct place at, uint8_t *out)
+{
+    size_t d = at.k;
+    while (at.tower == 3 && d > 0) {
+        unsigned x = at.position[--d], z = third[at.target][x];
+        uint64_t own = (uint64_t)(x != at.target) << d;
+        if (own > at.left) {
+            out[d] = (uint8_t)at.target;
+            at.tower = z;
+        } else {
+            out[d] = (uint8_t)x;
+            at.left -= own;
+            at.target = z;
+        }
+    }
+    while (d > 0) {
+        d--;
+        unsigned x = at.tower, y = at.target, waits = at.left >> d & 1, z = third[x][y];
+        out[d] = (uint8_t)(waits ? x : y);
+        at.tower = waits ? x : z;
+        at.target = waits ? z : y;
+    }
+}
+
+/* The next move, from and to as two bytes of a number, where one is left: that of the disc whose power of two is the last of those
+ * that are left. */
+static uint64_t move_of(struct place at)
+{
+    size_t disc = (size_t)__builtin_ctzll(at.left), d = at.k;
+    unsigned x = at.tower;
+    while (at.tower == 3 && d > disc) {
+        x = at.position[--d];
+        uint64_t own = (uint64_t)(x != at.target) << d;
+        if (own > at.left)
+            at.tower = third[at.target][x];
+        else if (d > disc) {
+            at.left -= own;
+            at.target = third[at.target][x];
+        }
+    }
+    while (d > disc) {
+        x = at.tower;
+        unsigned waits = at.left >> --d & 1, z = third[x][at.target];
+        if (!waits)
+            at.tower = z;
+        else if (d > disc)
+            at.target = z;
+    }
+    return at.backwards ? at.target * 256u + x : x * 256u + at.target;
+}
+
+/* The plan of a task that has the route, and whether that is a detour; or the fault. */
+static uint64_t opened(const uint8_t *task, size_t len, uint64_t route, struct plan *p, int *detour)
+{
+    uint64_t fault = planned(task, len, p);
+    if (fault)
+        return fault;
+    if (route >= routes(p))
+        return refused(4);
+    *detour = route == 1 || p->detour < p->direct;
+    return 0;
+}
+
+uint64_t hinz_move(const uint8_t *task, size_t len, uint64_t route, uint64_t index)
+{
+    struct plan p;
+    int detour;
+    uint64_t fault = opened(task, len, route, &p, &detour);
+    if (fault)
+        return fault;
+    if (index >= shortest(&p))
+        return refused(5);
+    struct place at = place_at(task, task + len / 2, &p, detour, index);
+    if (at.backwards)
+        at.left++;
+    if (at.left > 0)
+        return move_of(at);
+    unsigned from = at.tower < 3 ? p.c : p.a, to = detour && at.tower == 3 ? p.c : p.b;
+    return from * 256u + to;
+}
+
+/* Writes the position after so many moves of a route. */
+static void put_place(const uint8_t *task, size_t n, const struct plan *p, int detour, uint64_t index, uint8_t *out)
+{
+    memcpy(out, task, n);
+    if (p->m == 0)
+        return;
+    struct place at = place_at(task, task + n, p, detour, index);
+    discs_at(at, out);
+    if (at.tower < 3)
+        out[p->m - 1] = (uint8_t)p->c;
+    else if (at.backwards)
+        out[p->m - 1] = (uint8_t)p->b;
+}
+
+uint64_t hinz_place(const uint8_t *task, size_t len, uint64_t route, uint64_t index, uint8_t *out, size_t out_len)
+{
+    struct plan p;
+    int detour;
+    uint64_t fault = opened(task, len, route, &p, &detour);
+    if (fault)
+        return fault;
+    if (index > shortest(&p))
+        return refused(5);
+    if (out_len < len / 2)
+        return refused(6);
+    put_place(task, len / 2, &p, detour, index, out);
+    return 1;
+}
+
+uint64_t hinz_locate(const uint8_t *task, size_t len, const uint8_t *position, size_t position_len)
+{
+    struct plan p, there, back;
+    size_t n = len / 2;
+    uint64_t fault = planned(task, len, &p);
+    if (fault)
+        return fault;
+    if (position_len != n)
+        return refused(7);
+    if (!only_pegs(position, n))
+        return refused(3);
+    there = plan_of(task, position, n);
+    back = plan_of(position, task + n, n);
+    if (shortest(&there) + shortest(&back) != shortest(&p))
+        return 0;
+    if (routes(&p) == 2) {
+        uint8_t at[LIMIT];
+        put_place(task, n, &p, 0, shortest(&there), at);
+        if (memcmp(at, position, n) != 0)
+            return 0;
+    }
+    return shortest(&there);
 }

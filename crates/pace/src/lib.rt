@@ -4,8 +4,12 @@ ghost use mathlib.Core.Path.{_≡_};
 ghost use Rattle.parts.specs.Answer.{partsAnswer, partsWrites};
 ghost use Rattle.session.specs.Answer.{beginAnswer, sessionOr};
 ghost use Rattle.session.specs.Sessions.{recordAfter, callsFrom};
-ghost use Rattle.pace.specs.Counts.{counted};
+ghost use Rattle.route.specs.Answer.{placeAnswer, placeWrites};
+ghost use Rattle.pace.specs.Counts.{counted, accepted, movedPegs, indexFound};
+use board::Verdict;
 use parts::Ran;
+use route::Located;
+use route::Moving;
 
 // Parts: how many letters it wrote, or 0 where it refuses.
 #[no_mangle]
@@ -28,4 +32,39 @@ pub extern "C" fn pace_plays(task: &[u8], plays: &[u8]) -> u64
     let after = session::replay(begun.session, plays);
     let counts = after.counts;
     counts.made
+}
+
+// Move: its from and to, as the two bytes of a number, or 0 where it refuses.
+#[no_mangle]
+pub extern "C" fn pace_move(task: &[u8], route: u64, index: u64) -> u64
+    ensures { λ r. ⌜ r ≡ counted (movedPegs (now (task .entry)) route index) ⌝ }
+{
+    match route::move_at(task, route, index) {
+        Moving::Move(m, _) => m.from as u64 * 256 + m.to as u64,
+        Moving::Refused(_) => 0,
+    }
+}
+
+// Place: 1 where it is accepted, or 0 where it refuses.
+#[no_mangle]
+pub extern "C" fn pace_place(task: &[u8], route: u64, index: u64, out: &mut [u8]) -> u64
+    ensures { λ r. ⌜ r ≡ accepted (placeAnswer (now (task .entry)) route index (now (out .entry))) ⌝ }
+    ensures { λ _. ⌜ now (out .exit) ≡ placeWrites (now (task .entry)) route index (now (out .entry)) ⌝ }
+{
+    match route::place(task, route, index, out) {
+        Verdict::Accepted => 1,
+        Verdict::Refused(_) => 0,
+    }
+}
+
+// Locate: the index of a position that is on route 0, or 0 where it is not or the call refuses.
+#[no_mangle]
+pub extern "C" fn pace_locate(task: &[u8], position: &[u8]) -> u64
+    ensures { λ r. ⌜ r ≡ counted (indexFound (now (task .entry)) (now (position .entry))) ⌝ }
+{
+    match route::locate(task, position) {
+        Located::On { index, route } => if route == 0 { index } else { 0 },
+        Located::Off => 0,
+        Located::Refused(_) => 0,
+    }
 }

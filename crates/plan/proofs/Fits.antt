@@ -1,9 +1,11 @@
 -- The numbers of a plan fit 64 bits: with at most `limit` discs each of its parts is below 2 ^ limit.
-use Prim.Native.Nat.{ℕ, _+_, _≤_, _<_, _^_}
-use mathlib.Core.Path.{_≡_}
+use Prim.Native.Nat.{ℕ, zero, suc, _+_, _*_, _-_, _≤_, _<_, _^_, _%_}
+use mathlib.Core.Path.{_≡_, _∙_, refl}
 use mathlib.Core.List.{List}
+use mathlib.Core.Logic.{_≢_}
+use native.Mathlib.Nat.{one-mul}
 use native.Mathlib.Omega.{arith}
-use lib.Pow.{pow-pos, pow-mono}
+use lib.Pow.{pow-pos, pow-mono, shl-exact}
 use Rattle.board.specs.Position.{peg}
 use Rattle.board.specs.Task.{limit}
 use Rattle.board.proofs.Formed.{formed-pegs}
@@ -11,6 +13,15 @@ use Rattle.plan.specs.Gather.{gather}
 use Rattle.plan.specs.Inner.Sound.{Gatherable}
 use Rattle.plan.specs.Tower.{towerLength}
 use Rattle.plan.proofs.Gathering.{gather-bound}
+
+-- 1 shifted by k places is 2 ^ k: no bit is lost.
+pub shl-power : (k : ℕ) → k < 64 → (1 * 2 ^ k) % 2 ^ 64 ≡ 2 ^ k
+shl-power k h = shl-exact {a = 1} 1 k 64 (omega arith) (omega arith) ∙ one-mul (2 ^ k)
+
+-- The smaller discs make way for the largest, and it and they follow: a tower's length.
+pub tower-halves : (k : ℕ) → k ≢ 0 → 2 ^ (k - 1) - 1 + 2 ^ (k - 1) ≡ towerLength k
+tower-halves zero n = absurd (n refl)
+tower-halves (suc k) n = let less : suc k - 1 ≡ k = omega arith in rw less (omega (arith, pow-pos k))
 
 -- A tower's length and one more is a power of two.
 pub tower-more : (k : ℕ) → towerLength k + 1 ≡ 2 ^ k

@@ -15,7 +15,6 @@ pub mod Bounds
 pub mod OneMove
 pub mod Calls
 -- What the code's proofs cite.
-pub mod Table
 pub mod Parts
 pub mod Sound
 pub mod Fits

@@ -4,75 +4,15 @@ ghost use Prim.Native.Nat.{_≤_};
 ghost use Rattle.board.specs.Task.{limit};
 ghost use Rattle.plan.specs.Tower.{towerLength};
 
-// 2^d - 1 for d from 0 to the limit on discs.
-const LENGTHS: [u64; 61] = [
-    0,
-    1,
-    3,
-    7,
-    15,
-    31,
-    63,
-    127,
-    255,
-    511,
-    1023,
-    2047,
-    4095,
-    8191,
-    16383,
-    32767,
-    65535,
-    131071,
-    262143,
-    524287,
-    1048575,
-    2097151,
-    4194303,
-    8388607,
-    16777215,
-    33554431,
-    67108863,
-    134217727,
-    268435455,
-    536870911,
-    1073741823,
-    2147483647,
-    4294967295,
-    8589934591,
-    17179869183,
-    34359738367,
-    68719476735,
-    137438953471,
-    274877906943,
-    549755813887,
-    1099511627775,
-    2199023255551,
-    4398046511103,
-    8796093022207,
-    17592186044415,
-    35184372088831,
-    70368744177663,
-    140737488355327,
-    281474976710655,
-    562949953421311,
-    1125899906842623,
-    2251799813685247,
-    4503599627370495,
-    9007199254740991,
-    18014398509481983,
-    36028797018963967,
-    72057594037927935,
-    144115188075855871,
-    288230376151711743,
-    576460752303423487,
-    1152921504606846975,
-];
-
-// The moves that take a tower of d discs from one peg to another.
+// The moves that take a tower of d discs from one peg to another, 2^d - 1. From 2^(d - 1), so that no number on the way is above it:
+// 2^64 - 1 fits 64 bits, 2^64 does not.
 pub fn length(d: usize) -> u64
     requires { ⌜ d ≤ limit ⌝ }
     ensures { λ r. ⌜ r ≡ towerLength d ⌝ }
 {
-    LENGTHS[d]
+    if d == 0 {
+        return 0;
+    }
+    let half = 1 << (d - 1);
+    half - 1 + half
 }

@@ -1,12 +1,11 @@
 -- `plan::crossing::lengths` meets its contract: the copies gather as the positions do, the sums fit, and they are those of the rules.
 -- Assumes nothing.
-use Prim.Native.Nat.{ℕ, _+_, _*_, _^_, _%_, _≤_, _<_}
+use Prim.Native.Nat.{ℕ, _+_, _*_, _^_, _≤_, _<_}
 use mathlib.Core.Path.{_≡_, _∙_, refl}
 use mathlib.Core.List.{List, [], _∷_}
-use native.Mathlib.Nat.{one-mul}
 use native.Mathlib.Omega.{arith}
 use lib.ListN.{length}
-use lib.Pow.{pow-mono, shl-exact}
+use lib.Pow.{pow-mono}
 use borrow.Author.Needs.{needs}
 use Rattle.board.specs.Peg.{third}
 use Rattle.board.specs.Held.{padded}
@@ -20,14 +19,10 @@ use Rattle.plan.specs.Plan.{direct, detour}
 use Rattle.plan.specs.Inner.Sound.{Ends}
 use Rattle.plan.specs.declared.answer.Lengths.{Lengths}
 use Rattle.plan.proofs.Sound.{start-gatherable, goal-gatherable}
-use Rattle.plan.proofs.Fits.{gather-fits}
+use Rattle.plan.proofs.Fits.{shl-power, gather-fits}
 use Rattle.plan.proofs.OnePass.{together-copied}
 use Rattle.plan.proofs.crossing.lengths.Statement.{statement}
 use Rattle.plan.proofs.crossing.lengths.Tie as tie
-
--- 1 shifted by k places is 2 ^ k: no bit is lost.
-shift-exact : (k : ℕ) → k ≤ limit → (1 * 2 ^ k) % 2 ^ 64 ≡ 2 ^ k
-shift-exact k h = shl-exact {a = 1} 1 k 64 (omega arith) (omega arith) ∙ one-mul (2 ^ k)
 
 -- The direct plan's sum of disc k + 1: the lengths of its two gathers.
 directSum : List ℕ → List ℕ → ℕ → ℕ
@@ -165,7 +160,8 @@ add-t32 : tie.Need-add-t32
 add-t32 c =
     let pre = entry c .pre in
     let within : entry c .args .k ≤ limit = omega arith in
-    rw (sums-left c, shift-exact) (omega (arith, detour-small (pre .0) (pre .1), pow-mono within))
+    let less : entry c .args .k < 64 = omega arith in
+    rw (sums-left c, shl-power) (omega (arith, detour-small (pre .0) (pre .1), pow-mono within))
 
 add-t31 : tie.Need-add-t31
 add-t31 c = omega (arith, add-t32 c)
@@ -174,8 +170,8 @@ add-t31 c = omega (arith, add-t32 c)
 returns : tie.Need-returns
 unfolding directSum detourSum direct detour
 returns c =
-    let within : entry c .args .k ≤ limit = omega arith in
-    rw (sums-left c, shift-exact) (same-lengths (omega arith) (omega arith))
+    let less : entry c .args .k < 64 = omega arith in
+    rw (sums-left c, shl-power) (same-lengths (omega arith) (omega arith))
 
 pub lengths-spec : {M : Type 1} → statement M
 lengths-spec =

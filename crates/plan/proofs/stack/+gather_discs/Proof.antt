@@ -3,7 +3,7 @@ use Prim.Native.Nat.{ℕ, zero, suc, _+_, _*_, _-_, _<_, _≤_, _^_, _%_}
 use mathlib.Core.Path.{_≡_, _∙_, refl, sym}
 use mathlib.Core.Bool.{Bool, true, false, not, cond}
 use mathlib.Core.Logic.{_≢_}
-use native.Mathlib.Nat.{add-comm, zero-mul, one-mul}
+use native.Mathlib.Nat.{add-comm, zero-mul}
 use lib.Dec.{eqb}
 use mir.Val.{boolByte}
 use lib.Pow.{shl-exact, pow-mono}
@@ -17,7 +17,7 @@ use Rattle.board.specs.Task.{limit}
 use Rattle.board.proofs.Pegs.{third-peg}
 use Rattle.board.proofs.Formed.{formed-pegs}
 use Rattle.plan.specs.Gather.{gather}
-use Rattle.plan.proofs.Fits.{gather-fits}
+use Rattle.plan.proofs.Fits.{shl-power, gather-fits}
 use Rattle.plan.proofs.stack.gather_discs.Reads as reads
 use Rattle.plan.proofs.stack.gather_discs.Kinds as kinds
 use Rattle.plan.proofs.stack.+gather_discs.Lts-gather_discs as lts
@@ -33,7 +33,7 @@ gather-none p j = refl
 -- The test of a disc, shifted to its place: 0 on its target, else its power of two.
 shifted : (on : Bool) (k : ℕ) → k < 64 → (boolByte (not on) * 2 ^ k) % 2 ^ 64 ≡ cond on 0 (2 ^ k)
 shifted true k l = shl-exact {a = 0} 1 k 64 (omega arith) (omega arith) ∙ zero-mul (2 ^ k)
-shifted false k l = shl-exact {a = 1} 1 k 64 (omega arith) (omega arith) ∙ one-mul (2 ^ k)
+shifted false k l = shl-power k l
 
 -- It fits beside any gather length.
 shifted-fits : (on : Bool) (k : ℕ) → k ≤ limit → (boolByte (not on) * 2 ^ k) % 2 ^ 64 ≤ 2 ^ limit
