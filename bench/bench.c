@@ -19,8 +19,8 @@ typedef uint64_t run_fn(const uint8_t *task, size_t len, uint64_t route, uint64_
 typedef uint64_t plays_fn(const uint8_t *task, size_t len, const uint8_t *plays, size_t plays_len);
 typedef uint64_t call_fn(size_t i);
 
-/* crates/pace: from and to of a move, as the two bytes of a number; 1 for a place; the index of a position that is on route 0. Each is 0
- * where the call refuses. */
+/* crates/pace: disc, from and to of a move, as the three bytes of a number; 1 for a place; the index of a position that is on route 0.
+ * Each is 0 where the call refuses. */
 uint64_t pace_move(const uint8_t *task, size_t len, uint64_t route, uint64_t index);
 uint64_t pace_place(const uint8_t *task, size_t len, uint64_t route, uint64_t index, uint8_t *out, size_t out_len);
 uint64_t pace_locate(const uint8_t *task, size_t len, const uint8_t *position, size_t position_len);
@@ -115,7 +115,8 @@ static void bench_run(const char *label, size_t bytes, uint8_t *out, run_fn *oth
     row(label, ours, theirs, "million moves a second");
 }
 
-/* Move and Place at an index of each task's route 0, and Locate of the position there. */
+/* Move and Place at an index of each task's route 0, and Locate of the position there. hinz_locate looks for the place on a route only
+ * where there are two. */
 static uint64_t indexes[TASKS];
 static uint8_t places[TASKS][TOWER_LIMIT], hinz_places[TASKS][TOWER_LIMIT];
 

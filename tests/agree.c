@@ -1,5 +1,6 @@
 /* Compares the library's four calls with tests/hinz.c, answers and every byte of the buffers, on valid and damaged inputs. Inputs end
- * where a page begins that may not be touched. */
+ * where a page begins that may not be touched. The moves, places and locates of hinz.c, which the bench measures by, are held to the
+ * library's run. */
 #include <inttypes.h>
 #include <stdio.h>
 #include <stdlib.h>
@@ -103,6 +104,49 @@ static void compare_run(const uint8_t *task, size_t len, uint8_t *end)
     moves += TOWER_IS_REFUSED(answer) ? 0 : answer;
 }
 
+static void hold(int same, const char *call)
+{
+    if (!same) {
+        printf("hinz.c: its %s goes another way than tower_run\n", call);
+        exit(1);
+    }
+}
+
+/* The position after so many moves of a route is found again: at its index where it is on route 0. */
+static void hold_locate(const uint8_t *task, size_t len, uint64_t index, const uint8_t *position)
+{
+    uint8_t on_zero[TOWER_LIMIT];
+    size_t n = len / 2;
+    hinz_place(task, len, 0, index, on_zero, n);
+    hold(hinz_locate(task, len, position, n) == (memcmp(on_zero, position, n) ? 0 : index), "locate");
+}
+
+/* The move at an index is the run's, and takes the place there to the next; the last place is the goal. */
+static void hold_steps(const uint8_t *task, size_t len)
+{
+    uint8_t pair[2], place[TOWER_LIMIT], next[TOWER_LIMIT];
+    size_t n = len / 2;
+    uint64_t length = hinz_shortest(task, len), route = below(3);
+    uint64_t index = make_first(TOWER_IS_REFUSED(length) ? 0 : length);
+    uint64_t ran = tower_run(task, len, route, index, pair, sizeof pair);
+    uint64_t move = hinz_move(task, len, route, index), placed = hinz_place(task, len, route, index, place, n);
+    if (TOWER_IS_REFUSED(ran)) {
+        hold(move == ran && placed == ran, "refusal");
+        return;
+    }
+    hold(placed == 1, "place");
+    hold_locate(task, len, index, place);
+    if (ran == 0) {
+        hold(move == TOWER_NO_SUCH_INDEX && !memcmp(place, task + n, n), "last place");
+        return;
+    }
+    uint8_t from = pair[0] - 'A', to = pair[1] - 'A';
+    uint8_t *disc = memchr(place, from, n);
+    hold(disc && move == (uint64_t)(disc - place + 1) * 65536 + from * 256u + to, "move");
+    *disc = to;
+    hold(hinz_place(task, len, route, index + 1, next, n) == 1 && !memcmp(place, next, n), "place");
+}
+
 int main(void)
 {
     uint8_t *task_end = page_end(), *out_end = page_end();
@@ -119,6 +163,7 @@ int main(void)
         same("tower_routes", count, hinz_routes(task, len));
         same("tower_gather", tower_gather(given, len, peg), hinz_gather(task, len, peg));
         compare_run(given, len, out_end);
+        hold_steps(task, len);
         if (memcmp(task, made, len)) {
             printf("a task's bytes changed\n");
             return 1;

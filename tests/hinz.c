@@ -1,8 +1,8 @@
 /* Hinz's rules in plain C. Lengths: one pass over both positions, with a table for the third peg and no branch on a peg. Runs: a route
  * is a list of tower shifts, a single move being the shift of a tower of one disc. In a shift, move j is that of the disc whose number
  * is one more than the trailing zeros of j, and each disc goes round the pegs in one direction; `hinz_run_stacks` has no use of that but
- * for disc 1, and keeps the topmost disc of each peg and the disc beneath each disc (001, section 1). A single move or position: one
- * pass down the discs, by how many moves of a gathering are left. */
+ * for disc 1, and keeps the topmost disc of each peg and the disc beneath each disc (001, section 1). A single move or position: after
+ * the plan one pass down the discs, by how many moves of a gathering are left. */
 #include <string.h>
 
 #include "hinz.h"
@@ -393,8 +393,13 @@ static void discs_at(struct place at, uint8_t *out)
     }
 }
 
-/* The next move, from and to as two bytes of a number, where one is left: that of the disc whose power of two is the last of those
- * that are left. */
+/* Disc, from and to as the three bytes of a number. */
+static uint64_t bytes_of(size_t disc, unsigned from, unsigned to)
+{
+    return disc * 65536u + from * 256u + to;
+}
+
+/* The next move, where one is left: that of the disc whose power of two is the last in what is left. */
 static uint64_t move_of(struct place at)
 {
     size_t disc = (size_t)__builtin_ctzll(at.left), d = at.k;
@@ -417,7 +422,7 @@ static uint64_t move_of(struct place at)
         else if (d > disc)
             at.target = z;
     }
-    return at.backwards ? at.target * 256u + x : x * 256u + at.target;
+    return at.backwards ? bytes_of(disc + 1, at.target, x) : bytes_of(disc + 1, x, at.target);
 }
 
 /* The plan of a task that has the route, and whether that is a detour; or the fault. */
@@ -446,14 +451,14 @@ uint64_t hinz_move(const uint8_t *task, size_t len, uint64_t route, uint64_t ind
         at.left++;
     if (at.left > 0)
         return move_of(at);
-    unsigned from = at.tower < 3 ? p.c : p.a, to = detour && at.tower == 3 ? p.c : p.b;
-    return from * 256u + to;
+    return bytes_of(p.m, at.tower < 3 ? p.c : p.a, detour && at.tower == 3 ? p.c : p.b);
 }
 
 /* Writes the position after so many moves of a route. */
 static void put_place(const uint8_t *task, size_t n, const struct plan *p, int detour, uint64_t index, uint8_t *out)
 {
-    memcpy(out, task, n);
+    for (size_t d = 0; d < n; d++)
+        out[d] = task[d];
     if (p->m == 0)
         return;
     struct place at = place_at(task, task + n, p, detour, index);

@@ -1,5 +1,5 @@
-/* Hinz's rules in plain C, written apart from the library, to test it and to measure it by. Refusals are those of towers.h, and so are
- * the answers of calls that it has. */
+/* Hinz's rules in plain C, written apart from the library, to test it and to measure it by. Answers are those of towers.h, or as said
+ * below; refusal k of document 01 is 2^64 - k. */
 #ifndef HINZ_H
 #define HINZ_H
 
@@ -12,7 +12,7 @@ uint64_t hinz_gather(const uint8_t *position, size_t n, uint8_t peg);
 /* Run in two ways: by counting, and with the topmost disc of each peg and the disc beneath each disc. */
 uint64_t hinz_run(const uint8_t *task, size_t len, uint64_t route, uint64_t first, uint8_t *out, size_t out_len);
 uint64_t hinz_run_stacks(const uint8_t *task, size_t len, uint64_t route, uint64_t first, uint8_t *out, size_t out_len);
-/* Move: from and to, as the two bytes of a number. */
+/* Move: disc, from and to, as the three bytes of a number. */
 uint64_t hinz_move(const uint8_t *task, size_t len, uint64_t route, uint64_t index);
 /* Place: 1, with the position in out. */
 uint64_t hinz_place(const uint8_t *task, size_t len, uint64_t route, uint64_t index, uint8_t *out, size_t out_len);

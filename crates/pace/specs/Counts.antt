@@ -1,5 +1,5 @@
 -- The numbers that the timed calls answer.
-use Prim.Native.Nat.{ℕ, _+_, _*_}
+use Prim.Native.Nat.{ℕ, _+_, _*_, _%_}
 use mathlib.Core.Bool.{cond}
 use mathlib.Core.List.{List}
 use lib.Dec.{eqb}
@@ -17,17 +17,19 @@ abbrev pub accepted : Check → ℕ
 accepted (refused k) = 0
 accepted (answer a) = 1
 
--- From and to of a move, as the two bytes of a number.
-abbrev pub pegsOf : DiscMove → ℕ
-pegsOf m = m .from * 256 + m .to
+-- Disc, from and to of a move, as the three bytes of a number.
+abbrev pub bytesOf : DiscMove → ℕ
+bytesOf m = m .disc % 256 * 65536 + m .from * 256 + m .to
 
-abbrev pub movedPegs : List ℕ → ℕ → ℕ → Reply ℕ
-movedPegs t r i = do m ← moveAnswer t r i; answer (pegsOf m)
+-- The same of what Move answers (document 01).
+abbrev pub moveBytes : List ℕ → ℕ → ℕ → Reply ℕ
+moveBytes t r i = do m ← moveAnswer t r i; answer (bytesOf m)
 
 -- The index of a position on route 0, and 0 for any other.
 abbrev pub indexOf : Where → ℕ
 indexOf (on i r) = cond (eqb r 0) i 0
 indexOf off = 0
 
+-- The same of what Locate answers (document 01).
 abbrev pub indexFound : List ℕ → List ℕ → Reply ℕ
 indexFound t q = do w ← locateAnswer t q; answer (indexOf w)

@@ -5,7 +5,7 @@ ghost use Rattle.parts.specs.Answer.{partsAnswer, partsWrites};
 ghost use Rattle.session.specs.Answer.{beginAnswer, sessionOr};
 ghost use Rattle.session.specs.Sessions.{recordAfter, callsFrom};
 ghost use Rattle.route.specs.Answer.{placeAnswer, placeWrites};
-ghost use Rattle.pace.specs.Counts.{counted, accepted, movedPegs, indexFound};
+ghost use Rattle.pace.specs.Counts.{counted, accepted, moveBytes, indexFound};
 use board::Verdict;
 use parts::Ran;
 use route::Located;
@@ -34,13 +34,13 @@ pub extern "C" fn pace_plays(task: &[u8], plays: &[u8]) -> u64
     counts.made
 }
 
-// Move: its from and to, as the two bytes of a number, or 0 where it refuses.
+// Move: disc, from and to, as the three bytes of a number, or 0 where it refuses.
 #[no_mangle]
 pub extern "C" fn pace_move(task: &[u8], route: u64, index: u64) -> u64
-    ensures { λ r. ⌜ r ≡ counted (movedPegs (now (task .entry)) route index) ⌝ }
+    ensures { λ r. ⌜ r ≡ counted (moveBytes (now (task .entry)) route index) ⌝ }
 {
     match route::move_at(task, route, index) {
-        Moving::Move(m, _) => m.from as u64 * 256 + m.to as u64,
+        Moving::Move(m, _) => m.disc as u64 % 256 * 65536 + m.from as u64 * 256 + m.to as u64,
         Moving::Refused(_) => 0,
     }
 }

@@ -1,4 +1,4 @@
--- The numbers of a plan fit 64 bits: with at most `limit` discs each of its parts is below 2 ^ limit.
+-- Powers of two, tower lengths and gather lengths as numbers of 64 bits: with at most `limit` discs the lengths are below 2 ^ limit.
 use Prim.Native.Nat.{ℕ, zero, suc, _+_, _*_, _-_, _≤_, _<_, _^_, _%_}
 use mathlib.Core.Path.{_≡_, _∙_, refl}
 use mathlib.Core.List.{List}

@@ -4,7 +4,7 @@ ghost use Prim.Native.Nat.{_≤_};
 ghost use Rattle.board.specs.Task.{limit};
 ghost use Rattle.plan.specs.Tower.{towerLength};
 
-// The moves that take a tower of d discs from one peg to another, 2^d - 1. From 2^(d - 1), so that no number on the way is above it:
+// The moves that take a tower of d discs from one peg to another, 2^d - 1. By halves, so that no number on the way is above the answer:
 // 2^64 - 1 fits 64 bits, 2^64 does not.
 pub fn length(d: usize) -> u64
     requires { ⌜ d ≤ limit ⌝ }

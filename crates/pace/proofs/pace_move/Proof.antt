@@ -9,17 +9,23 @@ move-at-requires c κs = search needs
 enum-known-m : tie.Need-enum-known-m
 enum-known-m c = search needs
 
+mul-result : tie.Need-mul-result
+mul-result c = search needs
+
 cast-result : tie.Need-cast-result
 cast-result c = search needs
 
-mul-result : tie.Need-mul-result
-mul-result c = search needs
+mul-result-2 : tie.Need-mul-result-2
+mul-result-2 c = search needs
+
+add-result : tie.Need-add-result
+add-result c = search needs
 
 cast-result-2 : tie.Need-cast-result-2
 cast-result-2 c = search needs
 
-add-result : tie.Need-add-result
-add-result c = search needs
+add-result-2 : tie.Need-add-result-2
+add-result-2 c = search needs
 
 enum-told : tie.Need-enum-told
 enum-told c = search needs
@@ -42,10 +48,12 @@ pace-move-spec =
     (tie.spec
     move-at-requires
     enum-known-m
-    cast-result
     mul-result
-    cast-result-2
+    cast-result
+    mul-result-2
     add-result
+    cast-result-2
+    add-result-2
     enum-told
     returns
     returns-2)
