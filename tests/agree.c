@@ -1,6 +1,6 @@
 /* Compares the library's four calls with tests/hinz.c, answers and every byte of the buffers, on valid and damaged inputs. Inputs end
  * where a page begins that may not be touched. The moves, places and locates of hinz.c, which the bench measures by, are held to the
- * library's run. */
+ * library's run and lengths. */
 #include <inttypes.h>
 #include <stdio.h>
 #include <stdlib.h>
@@ -107,7 +107,7 @@ static void compare_run(const uint8_t *task, size_t len, uint8_t *end)
 static void hold(int same, const char *call)
 {
     if (!same) {
-        printf("hinz.c: its %s goes another way than tower_run\n", call);
+        printf("hinz.c: its %s goes another way than the library\n", call);
         exit(1);
     }
 }
@@ -119,6 +119,24 @@ static void hold_locate(const uint8_t *task, size_t len, uint64_t index, const u
     size_t n = len / 2;
     hinz_place(task, len, 0, index, on_zero, n);
     hold(hinz_locate(task, len, position, n) == (memcmp(on_zero, position, n) ? 0 : index), "locate");
+}
+
+/* Any position is off where the library's lengths by way of it do not add up. One byte too few is refused with 7, a byte above 2 with 3. */
+static void hold_off(const uint8_t *task, size_t len)
+{
+    uint8_t there[2 * TOWER_LIMIT], back[2 * TOWER_LIMIT], *position = there + len / 2;
+    size_t n = len / 2;
+    memcpy(there, task, n);
+    for (size_t d = 0; d < n; d++)
+        back[d] = position[d] = (uint8_t)below(3);
+    memcpy(back + n, task + n, n);
+    if (tower_shortest(there, len) + tower_shortest(back, len) != tower_shortest(task, len))
+        hold(hinz_locate(task, len, position, n) == 0, "off");
+    if (n == 0)
+        return;
+    hold(hinz_locate(task, len, position, n - 1) == TOWER_REFUSED(7), "refusal");
+    position[below(n)] = 3;
+    hold(hinz_locate(task, len, position, n) == TOWER_REFUSED(3), "refusal");
 }
 
 /* The move at an index is the run's, and takes the place there to the next; the last place is the goal. */
@@ -136,6 +154,7 @@ static void hold_steps(const uint8_t *task, size_t len)
     }
     hold(placed == 1, "place");
     hold_locate(task, len, index, place);
+    hold_off(task, len);
     if (ran == 0) {
         hold(move == TOWER_NO_SUCH_INDEX && !memcmp(place, task + n, n), "last place");
         return;
