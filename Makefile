@@ -15,7 +15,7 @@ LIBRARY = target/staticlib/libtowers.a
 PACE = target/staticlib/libpace.a
 HEADER = include/towers.h
 OUT = target/c
-SOURCES = crates.txt $(shell find crates/board crates/plan crates/route crates/run crates/towers -name '*.rt' -o -name '*.antt')
+SOURCES = crates.txt $(shell find crates/board crates/plan crates/route crates/run crates/word crates/batch crates/towers -name '*.rt' -o -name '*.antt')
 PACE_SOURCES = crates.txt $(shell find crates/board crates/plan crates/route crates/parts crates/session crates/pace -name '*.rt' -o -name '*.antt')
 
 .PHONY: all library header example test bench install clean
@@ -53,11 +53,12 @@ $(OUT)/host-sanitized: examples/host.c $(HEADER) $(LIBRARY) | $(OUT)
 $(OUT)/agree: tests/agree.c tests/hinz.c tests/hinz.h tests/random.h $(HEADER) $(LIBRARY) | $(OUT)
 	$(C) -O1 -g $(SANITIZE) tests/agree.c tests/hinz.c $(LIBRARY) -o $@
 
-# The example prints what tests/host.out holds, and the library agrees with an independent C, both under the sanitizers; the task
-# program answers as document 01 says.
+# The example prints what tests/host.out holds, and the library agrees with an independent C, both under the sanitizers; what is
+# installed is found by pkg-config; the task program answers as document 01 says.
 test: header $(OUT)/host-sanitized $(OUT)/agree
 	$(OUT)/host-sanitized | diff tests/host.out -
 	$(OUT)/agree
+	tests/install.sh
 	tests/tower.sh
 
 # Calls that C does not get, for the bench alone. Their library comes after ours, so that two `rt` do not prove at once.
@@ -72,9 +73,10 @@ bench: $(OUT)/bench
 	$(OUT)/bench
 
 install: all
-	install -d $(DESTDIR)$(PREFIX)/lib $(DESTDIR)$(PREFIX)/include
+	install -d $(DESTDIR)$(PREFIX)/lib/pkgconfig $(DESTDIR)$(PREFIX)/include
 	install -m 644 $(LIBRARY) $(DESTDIR)$(PREFIX)/lib/
 	install -m 644 $(HEADER) $(DESTDIR)$(PREFIX)/include/
+	install -m 644 towers.pc $(DESTDIR)$(PREFIX)/lib/pkgconfig/
 
 clean:
 	rm -rf $(OUT)

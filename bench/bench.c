@@ -1,5 +1,6 @@
 /* Measures the library beside tests/hinz.c in one run: the same inputs, alternating rounds, medians. Runs are measured beside both of
  * that file's: the one with the topmost disc of each peg and the disc beneath each disc, as the library's, and the one by counting.
+ * Batches are measured beside as many of the library's own single calls too.
  * Move, Place, Locate, the letters of Parts and the plays of a session, which are no C calls, come from crates/pace. Letters are
  * measured beside a memset of as many bytes, plays beside what each cannot do without: three fewests, of tests/hinz.c. */
 #include <inttypes.h>
@@ -16,6 +17,7 @@ enum { ROUNDS = 101, TASKS = 4096, RUN_BYTES = 8 << 20, PARTS_CALLS = 16, PLAYS 
 
 typedef uint64_t shortest_fn(const uint8_t *task, size_t len);
 typedef uint64_t run_fn(const uint8_t *task, size_t len, uint64_t route, uint64_t first, uint8_t *out, size_t out_len);
+typedef uint64_t batch_fn(uint64_t n, const uint8_t *tasks, size_t tasks_len, uint64_t *out, size_t out_len);
 typedef uint64_t plays_fn(const uint8_t *task, size_t len, const uint8_t *plays, size_t plays_len);
 typedef uint64_t call_fn(size_t i);
 
@@ -87,6 +89,48 @@ static void bench_shortest(size_t n)
     }
     snprintf(label, sizeof label, "shortest, %zu discs", n);
     row(label, ours, theirs, "ns a call");
+}
+
+/* The same tasks end to end, for one call of a batch. */
+static uint8_t week[TASKS * 2 * TOWER_LIMIT];
+
+static uint64_t by_calls(uint64_t n, const uint8_t *all, size_t all_len, uint64_t *out, size_t out_len)
+{
+    size_t size = 2 * (size_t)n;
+    for (size_t i = 0; i < out_len; i++)
+        out[i] = tower_shortest(all + i * size, size);
+    return all_len / size;
+}
+
+/* Nanoseconds a task. */
+static double time_batch(batch_fn *f, size_t n, uint64_t *out)
+{
+    double begun = seconds();
+    uint64_t count = f(n, week, TASKS * 2 * n, out, TASKS);
+    double taken = seconds() - begun;
+    if (count != TASKS) {
+        fprintf(stderr, "bench: a batch was refused\n");
+        exit(1);
+    }
+    return taken * 1e9 / TASKS;
+}
+
+static void bench_batch(const char *label, size_t n, batch_fn *other)
+{
+    static uint64_t lengths[TASKS], other_lengths[TASKS];
+    double ours[ROUNDS], theirs[ROUNDS];
+    make_tasks(n);
+    for (size_t i = 0; i < TASKS; i++)
+        memcpy(week + i * 2 * n, tasks[i], 2 * n);
+    for (int r = 0; r < ROUNDS; r++) {
+        ours[r] = time_batch(tower_batch, n, lengths);
+        theirs[r] = time_batch(other, n, other_lengths);
+    }
+    if (memcmp(lengths, other_lengths, sizeof lengths) != 0) {
+        fprintf(stderr, "bench: %s: the entries differ\n", label);
+        exit(1);
+    }
+    row(label, ours, theirs, "ns a task");
 }
 
 /* Million moves a second, filling a buffer from random indexes of random tasks of 60 discs. */
@@ -289,6 +333,12 @@ int main(void)
     bench_run("run, 4 MiB, by stacks", 4 << 20, out, hinz_run_stacks);
     bench_run("run, 64 KiB, by counting", 64 << 10, out, hinz_run);
     bench_run("run, 4 MiB, by counting", 4 << 20, out, hinz_run);
+    printf("Batches, a round: one call with %d random tasks; beside it as many calls of tower_shortest, or one of hinz.c.\n", TASKS);
+    printf("%-28s %9s %9s %7s\n", "", "library", "other", "ratio");
+    bench_batch("batch, 10 discs, by calls", 10, by_calls);
+    bench_batch("batch, 60 discs, by calls", 60, by_calls);
+    bench_batch("batch, 10 discs, by hinz.c", 10, hinz_batch);
+    bench_batch("batch, 60 discs, by hinz.c", 60, hinz_batch);
     printf("Moves, places and locates, a round: %d random tasks of 60 discs, at a random index of each.\n", TASKS);
     printf("%-28s %9s %9s %7s\n", "", "library", "hinz.c", "ratio");
     bench_indexes();

@@ -1,12 +1,15 @@
-/* Plans a list of items: prints each item's fewest moves, how many shortest routes there are, and the first route. */
+/* Plans a list of items: prints each item's fewest moves, how many shortest routes there are, and the first route. The fewest of items
+ * of one size that stand together come from one call. */
 #include <inttypes.h>
 #include <stdio.h>
+#include <string.h>
 
 #include "towers.h"
 
+/* The pegs of discs 1 to n, n at least 1, at the start and at the goal. */
 struct item {
     const char *name;
-    const char *start; /* the pegs of discs 1 to n */
+    const char *start;
     const char *goal;
 };
 
@@ -14,21 +17,22 @@ static const struct item items[] = {
     {"one disc", "A", "C"},
     {"two discs", "AA", "CC"},
     {"a tie", "BA", "AB"},
-    {"a detour", "BBA", "AAB"},
-    {"six discs", "ABCAAB", "BCABBA"},
-    {"still", "ABC", "ABC"},
     {"no such peg", "AD", "AA"},
+    {"two discs back", "CC", "AA"},
+    {"a detour", "BBA", "AAB"},
+    {"still", "ABC", "ABC"},
+    {"six discs", "ABCAAB", "BCABBA"},
 };
 
-/* The bytes of an item's task. */
-static size_t task_of(const struct item *item, uint8_t *task)
+enum { ITEMS = sizeof items / sizeof items[0] };
+
+/* The bytes of an item's task: 2n of them. */
+static void put_task(const struct item *item, size_t n, uint8_t *task)
 {
-    size_t len = 0;
-    for (const char *p = item->start; *p; p++)
-        task[len++] = (uint8_t)(*p - 'A');
-    for (const char *p = item->goal; *p; p++)
-        task[len++] = (uint8_t)(*p - 'A');
-    return len;
+    for (size_t d = 0; d < n; d++) {
+        task[d] = (uint8_t)(item->start[d] - 'A');
+        task[n + d] = (uint8_t)(item->goal[d] - 'A');
+    }
 }
 
 /* Prints the moves of route 0, some at a time. */
@@ -47,18 +51,45 @@ static void print_route(const uint8_t *task, size_t len)
     printf("\n");
 }
 
+static void print_item(const char *name, const uint8_t *task, size_t len, uint64_t fewest)
+{
+    if (TOWER_IS_REFUSED(fewest)) {
+        printf("%s: refused %u\n", name, TOWER_NUMBER(fewest));
+        return;
+    }
+    printf("%s: fewest %" PRIu64 ", routes %" PRIu64 ":", name, fewest, tower_routes(task, len));
+    print_route(task, len);
+}
+
+/* Plans so many items of n discs in one call. An item with a bad byte is refused by itself. */
+static void plan_items(const struct item *some, size_t count, size_t n)
+{
+    uint8_t tasks[ITEMS * 2 * TOWER_LIMIT];
+    uint64_t fewest[ITEMS];
+    if (n > TOWER_LIMIT) {
+        printf("%s: more than %d discs\n", some->name, TOWER_LIMIT);
+        return;
+    }
+    for (size_t i = 0; i < count; i++)
+        put_task(&some[i], n, tasks + i * 2 * n);
+    uint64_t planned = tower_batch(n, tasks, count * 2 * n, fewest, ITEMS);
+    if (TOWER_IS_REFUSED(planned)) {
+        printf("%s: the call is refused %u\n", some->name, TOWER_NUMBER(planned));
+        return;
+    }
+    for (size_t i = 0; i < planned; i++)
+        print_item(some[i].name, tasks + i * 2 * n, 2 * n, fewest[i]);
+}
+
 int main(void)
 {
-    for (size_t i = 0; i < sizeof items / sizeof items[0]; i++) {
-        uint8_t task[2 * TOWER_LIMIT];
-        size_t len = task_of(&items[i], task);
-        uint64_t fewest = tower_shortest(task, len);
-        if (TOWER_IS_REFUSED(fewest)) {
-            printf("%s: refused %u\n", items[i].name, TOWER_NUMBER(fewest));
-            continue;
-        }
-        printf("%s: fewest %" PRIu64 ", routes %" PRIu64 ":", items[i].name, fewest, tower_routes(task, len));
-        print_route(task, len);
+    size_t i = 0;
+    while (i < ITEMS) {
+        size_t n = strlen(items[i].start), count = 1;
+        while (i + count < ITEMS && strlen(items[i + count].start) == n)
+            count++;
+        plan_items(&items[i], count, n);
+        i += count;
     }
     return 0;
 }

@@ -10,7 +10,7 @@
  *
  * The functions read the bytes that they are given and write nowhere but to `out`. They never allocate, block, or keep a pointer, and
  * they have no state: any number of threads may call them. A pointer may be null where its length is 0. `out` must not overlap
- * `task`.
+ * what is read.
  */
 #ifndef TOWERS_H
 #define TOWERS_H
@@ -29,15 +29,16 @@ extern "C" {
 #define TOWER_REFUSED(k) (UINT64_MAX - (uint64_t)(k) + 1)
 
 /* The refusals. */
-#define TOWER_ODD_LENGTH TOWER_REFUSED(1)     /* the task has an odd number of bytes */
-#define TOWER_TOO_MANY_DISCS TOWER_REFUSED(2) /* more than TOWER_LIMIT discs */
-#define TOWER_NOT_A_PEG TOWER_REFUSED(3)      /* a byte, or the peg, above 2 */
-#define TOWER_NO_SUCH_ROUTE TOWER_REFUSED(4)  /* the route number is not below the count of shortest routes */
-#define TOWER_NO_SUCH_INDEX TOWER_REFUSED(5)  /* the index is above the length */
-#define TOWER_SHORT_BUFFER TOWER_REFUSED(6)   /* moves remain and `out` has fewer than 2 bytes */
+#define TOWER_ODD_LENGTH TOWER_REFUSED(1)       /* the task has an odd number of bytes */
+#define TOWER_TOO_MANY_DISCS TOWER_REFUSED(2)   /* more than TOWER_LIMIT discs */
+#define TOWER_NOT_A_PEG TOWER_REFUSED(3)        /* a byte, or the peg, above 2 */
+#define TOWER_NO_SUCH_ROUTE TOWER_REFUSED(4)    /* the route number is not below the count of shortest routes */
+#define TOWER_NO_SUCH_INDEX TOWER_REFUSED(5)    /* the index is above the length */
+#define TOWER_SHORT_BUFFER TOWER_REFUSED(6)     /* moves remain and `out` has fewer than 2 bytes; or fewer entries than tasks */
+#define TOWER_NOT_WHOLE_TASKS TOWER_REFUSED(13) /* the tasks' bytes are not a multiple of 2n */
 
-/* Whether an answer is a refusal; TOWER_NUMBER is then its number, 1 to 6. */
-#define TOWER_IS_REFUSED(answer) ((uint64_t)(answer) >= TOWER_SHORT_BUFFER)
+/* Whether an answer, or an entry of tower_batch, is a refusal; TOWER_NUMBER is then its number, one of those above. */
+#define TOWER_IS_REFUSED(answer) ((uint64_t)(answer) >= TOWER_NOT_WHOLE_TASKS)
 #define TOWER_NUMBER(answer) ((unsigned)(0 - (uint64_t)(answer)))
 
 /* The fewest moves that lead from the task's start to its goal.
@@ -58,6 +59,13 @@ uint64_t tower_gather(const uint8_t *position, size_t position_len, uint8_t peg)
  * Index 0 is the first move, and `first` may be the length, where no move remains.
  * Refuses with the task faults, then TOWER_NO_SUCH_ROUTE, TOWER_NO_SUCH_INDEX, TOWER_SHORT_BUFFER. */
 uint64_t tower_run(const uint8_t *task, size_t task_len, uint64_t route, uint64_t first, uint8_t *out, size_t out_len);
+
+/* Plans many tasks of n discs in one call. `tasks` holds them end to end, 2n bytes each; entry i of `out` becomes what tower_shortest
+ * answers for bytes 2ni to 2n(i + 1) - 1: the fewest moves, or TOWER_NOT_A_PEG where one of these bytes is above 2, which changes no
+ * other entry. Answers how many tasks there are. Entries of `out` after theirs stay as they were. `out_len` counts entries, not bytes.
+ * With n = 0, `tasks` must be empty, and there are no tasks.
+ * Refuses with TOWER_TOO_MANY_DISCS, TOWER_NOT_WHOLE_TASKS, TOWER_SHORT_BUFFER for fewer entries than tasks, in this order. */
+uint64_t tower_batch(uint64_t n, const uint8_t *tasks, size_t tasks_len, uint64_t *out, size_t out_len);
 
 #ifdef __cplusplus
 }

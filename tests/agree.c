@@ -1,4 +1,4 @@
-/* Compares the library's four calls with tests/hinz.c, answers and every byte of the buffers, on valid and damaged inputs. Inputs end
+/* Compares the library's five calls with tests/hinz.c, answers and every byte of the buffers, on valid and damaged inputs. Inputs end
  * where a page begins that may not be touched. The moves, places and locates of hinz.c, which the bench measures by, are held to the
  * library's run and lengths. */
 #include <inttypes.h>
@@ -12,7 +12,7 @@
 #include "random.h"
 #include "towers.h"
 
-enum { ROUNDS = 300000, LONGEST = 300 };
+enum { ROUNDS = 300000, LONGEST = 300, MOST_BYTES = 4000, MOST_ENTRIES = 500 };
 
 static uint64_t below(uint64_t n)
 {
@@ -31,7 +31,7 @@ static uint8_t *page_end(void)
     return p + page;
 }
 
-static uint64_t calls, refusals, ties, moves;
+static uint64_t calls, refusals, ties, moves, entries, bad_entries;
 
 static void same(const char *call, uint64_t ours, uint64_t theirs)
 {
@@ -102,6 +102,67 @@ static void compare_run(const uint8_t *task, size_t len, uint8_t *end)
         exit(1);
     }
     moves += TOWER_IS_REFUSED(answer) ? 0 : answer;
+}
+
+/* Mostly boards of few discs; the limit; and numbers whose double wraps round to that of a board. */
+static uint64_t make_discs(void)
+{
+    switch (below(8)) {
+    case 0:
+        return below(64);
+    case 1:
+        return ((uint64_t)1 << 63) + below(64);
+    case 2:
+        return any();
+    default:
+        return below(7);
+    }
+}
+
+/* How many bytes of tasks: mostly whole tasks, as they fit. */
+static size_t make_length(uint64_t n)
+{
+    size_t size = n <= TOWER_LIMIT ? 2 * (size_t)n : 1 + below(20);
+    if (!below(8))
+        return below(MOST_BYTES + 1);
+    size_t most = size ? MOST_BYTES / size : 0;
+    size_t len = size * below(most < 40 ? most + 1 : 40);
+    return below(8) ? len : len + below(4);
+}
+
+/* Every entry and every byte in front of the entries. */
+static void compare_batch(uint8_t *tasks_end, uint8_t *out_end)
+{
+    static uint8_t made[MOST_BYTES + 4];
+    static uint64_t before[MOST_ENTRIES], theirs[MOST_ENTRIES];
+    uint64_t n = make_discs();
+    size_t len = make_length(n), count = n && n <= TOWER_LIMIT ? len / (2 * (size_t)n) : 0;
+    size_t room = below(4) ? count + below(3) : below(MOST_ENTRIES + 1);
+    if (below(8) == 0 && count)
+        room = count - 1;
+    if (room > MOST_ENTRIES)
+        room = MOST_ENTRIES;
+    uint8_t *tasks = tasks_end - len;
+    uint64_t *frame = (uint64_t *)(void *)out_end - MOST_ENTRIES, *out = frame + MOST_ENTRIES - room;
+    unsigned bad = below(2) ? 16 : 1000;
+    for (size_t i = 0; i < len; i++)
+        tasks[i] = made[i] = (uint8_t)(below(bad) ? below(3) : any() >> 8);
+    for (size_t i = 0; i < MOST_ENTRIES; i++)
+        frame[i] = before[i] = any();
+    memcpy(theirs, before, sizeof before);
+    uint64_t answer = tower_batch(n, len || below(2) ? tasks : NULL, len, room || below(2) ? out : NULL, room);
+    same("tower_batch", answer, hinz_batch(n, made, len, theirs + MOST_ENTRIES - room, room));
+    if (memcmp(frame, theirs, sizeof theirs) || memcmp(tasks, made, len)) {
+        printf("tower_batch: entries or tasks differ\n");
+        exit(1);
+    }
+    for (size_t i = 0; !TOWER_IS_REFUSED(answer) && i < answer; i++, entries++) {
+        if (out[i] != tower_shortest(made + i * 2 * n, 2 * n)) {
+            printf("tower_batch: entry %zu is not what tower_shortest answers\n", i);
+            exit(1);
+        }
+        bad_entries += out[i] == TOWER_NOT_A_PEG;
+    }
 }
 
 static void hold(int same, const char *call)
@@ -187,7 +248,9 @@ int main(void)
             printf("a task's bytes changed\n");
             return 1;
         }
+        if (i % 4 == 0)
+            compare_batch(task_end, out_end);
     }
-    printf("%" PRIu64 " calls agree: %" PRIu64 " refused, %" PRIu64 " ties, %" PRIu64 " moves\n", calls, refusals, ties, moves);
+    printf("%" PRIu64 " calls agree: %" PRIu64 " refused, %" PRIu64 " ties, %" PRIu64 " moves; %" PRIu64 " entries of batches, %" PRIu64 " of them refused\n", calls, refusals, ties, moves, entries, bad_entries);
     return 0;
 }

@@ -123,6 +123,27 @@ uint64_t hinz_routes(const uint8_t *task, size_t len)
     return fault ? fault : routes(&p);
 }
 
+/* What all tasks of a batch share is looked at once. */
+uint64_t hinz_batch(uint64_t n, const uint8_t *tasks, size_t tasks_len, uint64_t *out, size_t out_len)
+{
+    if (n > LIMIT)
+        return refused(2);
+    size_t size = 2 * (size_t)n, count = size ? tasks_len / size : 0;
+    if (count * size != tasks_len)
+        return refused(13);
+    if (out_len < count)
+        return refused(6);
+    for (size_t i = 0; i < count; i++, tasks += size) {
+        if (!only_pegs(tasks, size)) {
+            out[i] = refused(3);
+            continue;
+        }
+        struct plan p = plan_of(tasks, tasks + n, n);
+        out[i] = shortest(&p);
+    }
+    return count;
+}
+
 /* The shift of a tower of k discs, 2^k - 1 moves; or, k being 1, the move of any one disc. `disc` is the smallest of them. */
 struct block {
     uint8_t disc, k, from, to;

@@ -1,10 +1,10 @@
--- Laws of lists: the first and the last entries of a list that is joined, mapped or repeated.
-use Prim.Native.Nat.{ℕ, zero, suc, _-_, min}
+-- Laws of lists: the first and the last entries of a list that is joined, mapped, repeated or stored into.
+use Prim.Native.Nat.{ℕ, zero, suc, _+_, _-_, _≤_, min}
 use mathlib.Core.List.{List, [], _∷_, _++_, map}
-use mathlib.Core.Path.{_≡_, refl, ap}
+use mathlib.Core.Path.{_≡_, _∙_, refl, ap}
 use native.Mathlib.Omega.{arith}
-use lib.ListN.{length, take, drop, replicate}
-use lib.Seq.{take-nil, drop-nil}
+use lib.ListN.{length, take, drop, replicate, length-append, length-drop}
+use lib.Seq.{take-nil, drop-nil, take-at, drop-append-add, drop-drop, sets, sets-eq}
 
 module _ {A : Type 0} where
   -- The first n of two lists are those of the first, and of the second what is left of n.
@@ -32,6 +32,14 @@ module _ {A : Type 0} where
   drop-replicate zero m a = let same : m - 0 ≡ m = omega arith in rw same
   drop-replicate (suc n) zero a = let none : 0 - suc n ≡ 0 = omega arith in rw none
   drop-replicate (suc n) (suc m) a = let less : suc m - suc n ≡ m - n = omega arith in rw less (drop-replicate n m a)
+
+  -- What is stored at the end of what is written is written too.
+  pub stored : (xs vs o : List A) (n : ℕ) → length xs ≡ n → n + length vs ≤ length o
+      → sets (xs ++ drop n o) n vs ≡ (xs ++ vs) ++ drop (n + length vs) o
+  stored xs vs o n e h =
+      let rest : drop (n + length vs) (xs ++ drop n o) ≡ drop (n + length vs) o =
+      rw (← e) (drop-append-add xs _ (length vs) ∙ drop-drop (length vs) (length xs) o) in
+      sets-eq vs (xs ++ drop n o) n (omega (arith, length-append xs (drop n o), length-drop n o)) ∙ rw (take-at xs _ n e, rest)
 
 module _ {A B : Type 0} (f : A → B) where
   -- Mapped, the first are the first.

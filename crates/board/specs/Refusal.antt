@@ -1,4 +1,4 @@
--- The refusals and their numbers (document 01, "The operations and when each refuses").
+-- The refusals and their numbers (document 01, "The operations and when each refuses"; 13: 02, CR 5).
 use Prim.Native.Nat.{ℕ}
 use Rattle.board.specs.Reply.{refused, Check, pass}
 use Rattle.board.specs.declared.refusal.Refusal.{Refusal}
@@ -15,11 +15,12 @@ use Rattle.board.specs.declared.refusal.Refusal.the-variants.{
   UnsoundRecord,
   TooManyPlays,
   BadText,
+  NotWholeTasks,
 }
 use Rattle.board.specs.declared.refusal.Verdict.{Verdict}
 use Rattle.board.specs.declared.refusal.Verdict.the-variants.{Accepted, Refused}
 
--- Document 01's number of each refusal.
+-- The documents' number of each refusal.
 abbrev pub number : Refusal → ℕ
 number OddLength = 1
 number TooManyDiscs = 2
@@ -33,6 +34,7 @@ number SmallerInTheWay = 9
 number UnsoundRecord = 10
 number TooManyPlays = 11
 number BadText = 12
+number NotWholeTasks = 13
 
 -- What a verdict says, in that number.
 abbrev pub verdictReply : Verdict → Check

@@ -1,4 +1,4 @@
-// Why a call is refused, and the number that document 01 gives each reason.
+// Why a call is refused, and the number that documents 01 and 02 give each reason.
 ghost use mathlib.Core.Path.{_≡_};
 ghost use Rattle.board.specs.Refusal.{number as numberOf};
 
@@ -15,6 +15,7 @@ pub enum Refusal {
     UnsoundRecord,
     TooManyPlays,
     BadText,
+    NotWholeTasks,
 }
 
 // What a check of a call's input finds.
@@ -40,6 +41,7 @@ impl Refusal {
             Refusal::UnsoundRecord => 10,
             Refusal::TooManyPlays => 11,
             Refusal::BadText => 12,
+            Refusal::NotWholeTasks => 13,
         }
     }
 }

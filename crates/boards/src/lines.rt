@@ -1,5 +1,6 @@
 // One line for each call: its name, and what it answers.
 ghost use Prim.Native.Nat.{_≤_};
+use batch::Batched;
 use show::text;
 
 fn heading(call: &[u8], name: &[u8]) {
@@ -98,4 +99,43 @@ pub fn locate(name: &[u8], task: &[u8], position: &[u8]) {
     heading(b"locate ", name);
     show::located(route::locate(task, position));
     text(b"\n");
+}
+
+// What an entry holds before the call, which no call writes.
+const UNWRITTEN: u64 = 9223372036854775808;
+
+// An entry, or a dot for one that was not written.
+fn entry(number: u64) {
+    if number == UNWRITTEN {
+        text(b" .");
+    } else {
+        show::named(b" ", number);
+    }
+}
+
+fn entries(buffer: &[u64]) {
+    let mut i = 0;
+    while i < buffer.len() {
+        entry(buffer[i]);
+        i += 1;
+    }
+}
+
+// A refused call, too, shows its buffer.
+fn batch_into(n: u64, tasks: &[u8], buffer: &mut [u64]) {
+    match batch::batch(n, tasks, buffer) {
+        Batched::Tasks(count) => show::number(count as u64),
+        Batched::Refused(why) => show::named(b"refused ", why.number()),
+    }
+    text(b":");
+    entries(buffer);
+    text(b"\n");
+}
+
+// The answer of Batch, and its buffer of so many entries.
+pub fn batch(name: &[u8], n: u64, tasks: &[u8], room: usize)
+    requires { ⌜ room ≤ 6 ⌝ }
+{
+    heading(b"batch ", name);
+    batch_into(n, tasks, &mut [UNWRITTEN; 6][..room]);
 }

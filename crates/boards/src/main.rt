@@ -1,4 +1,5 @@
 // Prints what the library answers on the boards of documents 01 and 02 and on faulty calls.
+mod batches;
 mod boards;
 mod faults;
 mod letters;
@@ -10,4 +11,5 @@ fn main() {
     faults::all();
     routes::all();
     letters::all();
+    batches::all();
 }

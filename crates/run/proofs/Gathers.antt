@@ -9,6 +9,7 @@ use native.Mathlib.Omega.{arith}
 use lib.ListN.{length, drop, set, length-append}
 use lib.Seq.{sets}
 use Rattle.board.specs.Position.{peg}
+use Rattle.board.proofs.Lists.{stored}
 use Rattle.route.specs.Answer.{letter}
 use Rattle.run.specs.Inner.Gatherer.{Gatherer, gatherer, gatherMove, gatherNext, gathersFrom, gatherLetters, Gathers}
 use Rattle.run.specs.Inner.Pegs.{arrays, shifted}
@@ -19,7 +20,7 @@ use Rattle.run.specs.declared.stepper.Leg.{Leg}
 use Rattle.run.specs.declared.stepper.Step.{Step}
 use Rattle.run.specs.declared.stepper.Stepper.{Stepper}
 use Rattle.run.specs.declared.stepper.Turn.{Turn}
-use Rattle.run.proofs.Letters.{letters-more, letters-length, sets-append, stored}
+use Rattle.run.proofs.Letters.{letters-more, letters-length, sets-append}
 use Rattle.run.proofs.Steps.{gather-small, gather-other, step-gather}
 
 -- A stepper without its leg.

@@ -1,11 +1,12 @@
 -- Laws of the letters of moves: how a buffer comes to hold one more move.
 use Prim.Native.Nat.{ℕ, zero, suc, _+_, _*_, _≤_}
 use mathlib.Core.List.{List, [], _∷_, _++_}
-use mathlib.Core.Path.{_≡_, refl, ap, _∙_}
+use mathlib.Core.Path.{_≡_, refl, ap}
 use native.Mathlib.Nat.{add-zero}
 use native.Mathlib.Omega.{arith}
-use lib.ListN.{length, drop, set, length-append, length-drop}
-use lib.Seq.{take-at, drop-append-add, drop-drop, sets, sets-eq}
+use lib.ListN.{length, drop, set}
+use lib.Seq.{sets}
+use Rattle.board.proofs.Lists.{stored}
 use Rattle.route.specs.Answer.{letter}
 use Rattle.run.specs.Inner.Stepper.{Advance, advance}
 use Rattle.run.specs.Inner.Written.{stepsFrom, stepLetters}
@@ -42,14 +43,6 @@ sets-append l n [] ys = rw add-zero
 sets-append l n (x ∷ xs) ys =
     let e : n + suc (length xs) ≡ suc n + length xs = omega arith in
     rw e (sets-append (set l n x) (suc n) xs ys)
-
--- What is stored at the end of what is written is written too.
-pub stored : (xs vs o : List ℕ) (n : ℕ) → length xs ≡ n → n + length vs ≤ length o
-    → sets (xs ++ drop n o) n vs ≡ (xs ++ vs) ++ drop (n + length vs) o
-stored xs vs o n e h =
-    let rest : drop (n + length vs) (xs ++ drop n o) ≡ drop (n + length vs) o =
-    rw (← e) (drop-append-add xs _ (length vs) ∙ drop-drop (length vs) (length xs) o) in
-    sets-eq vs (xs ++ drop n o) n (omega (arith, length-append xs (drop n o), length-drop n o)) ∙ rw (take-at xs _ n e, rest)
 
 -- The next move, m, is written.
 pub go : (s : Stepper) (q : ℕ → ℕ) (i : ℕ) (o : List ℕ) {m : Advance} → 2 * suc i ≤ length o → m ≡ advance (stepsFrom s q i) q

@@ -1,26 +1,14 @@
--- What the C host gets (document 01): each reply as one number of 64 bits, refusal k as 2 ^ 64 − k.
-use Prim.Native.Nat.{ℕ, _-_, _≤_, _<_, _^_}
+-- What the C host gets from each call (document 01; 02, CR 5): its reply as one number of 64 bits, by word/specs/Words.
+use Prim.Native.Nat.{ℕ}
 use mathlib.Core.List.{List}
-use mathlib.Core.Logic.{_↔_}
-use mathlib.Core.Path.{_≡_}
-use Rattle.board.specs.Reply.{Reply, refused, answer, _>>=_}
-use Rattle.board.specs.Task.{limit}
+use Rattle.board.specs.Reply.{Reply, answer, _>>=_}
+use Rattle.batch.specs.Answer.{batchAnswer}
 use Rattle.plan.specs.Answer.{gatherAnswer, planAnswer}
-use Rattle.plan.specs.Plan.{shortest, routes}
+use Rattle.plan.specs.Plan.{routes}
 use Rattle.route.specs.Answer.{runAnswer}
+use Rattle.word.specs.Words.{word}
 
-abbrev pub word : Reply ℕ → ℕ
-word (refused k) = 2 ^ 64 - k
-word (answer n) = n
-
--- The shortest length of a task.
-abbrev pub shortestReply : List ℕ → Reply ℕ
-shortestReply t = do p ← planAnswer t; answer (shortest p)
-
-abbrev pub shortestWord : List ℕ → ℕ
-shortestWord t = word (shortestReply t)
-
--- How many shortest routes it has.
+-- How many shortest routes a task has.
 abbrev pub routesReply : List ℕ → Reply ℕ
 routesReply t = do p ← planAnswer t; answer (routes p)
 
@@ -35,11 +23,6 @@ gatherWord p j = word (gatherAnswer p j)
 abbrev pub runWord : List ℕ → ℕ → ℕ → List ℕ → ℕ
 runWord t r i out = word (runAnswer t r i out)
 
--- The most that a refusal's number is.
-abbrev pub lastNumber : ℕ
-lastNumber = 12
-
--- A number tells a reply: it is 2 ^ 64 − k exactly where the reply is refused with k, and an answer is itself, below 2 ^ 60.
-pub record Tells (w : ℕ) (r : Reply ℕ) : Type 0 where
-  pub refuses : (k : ℕ) → 1 ≤ k → k ≤ lastNumber → (w ≡ 2 ^ 64 - k) ↔ (r ≡ refused k)
-  pub answers : (n : ℕ) → r ≡ answer n → (w ≡ n) × (n < 2 ^ limit)
+-- How many tasks Batch planned.
+abbrev pub batchWord : ℕ → List ℕ → List ℕ → ℕ
+batchWord n b out = word (batchAnswer n b out)

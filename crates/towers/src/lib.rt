@@ -1,34 +1,24 @@
-// Plan, Gather and Run for C: each answer is one number of 64 bits. Refusal k comes as 2^64 - k, which no other answer reaches.
-// What C owes: behind each pointer as many bytes as the length after it says, and an `out` that shares no byte with `task`.
+// Plan, Gather, Run and Batch for C: each answer is one number of 64 bits. Refusal k comes as 2^64 - k, which no other answer reaches.
+// What C owes: behind each pointer as many bytes, or numbers of 64 bits, as the length after it says, and an `out` that shares no byte
+// with what is read.
 ghost use mathlib.Core.Path.{_≡_};
-ghost use Rattle.board.specs.Refusal.{number};
-ghost use Rattle.board.specs.Reply.{refused};
+ghost use Rattle.batch.specs.Answer.{batchAnswer, batchWrites};
 ghost use Rattle.route.specs.Answer.{runWrites};
-ghost use Rattle.towers.specs.Words.{word, gatherWord, shortestWord, routesWord, runWord};
-use board::Refusal;
+ghost use Rattle.word.specs.Words.{shortestWord, Tells};
+ghost use Rattle.towers.specs.Words.{routesWord, gatherWord, runWord, batchWord};
+use batch::Batched;
 use plan::Gathered;
 use plan::Planned;
 use run::Ran;
-
-// The largest number of 64 bits.
-const LARGEST: u64 = 18446744073709551615;
-
-// The number that a refusal comes as.
-fn refusal_word(why: Refusal) -> u64
-    ensures { λ r. ⌜ r ≡ word (refused (number why)) ⌝ }
-{
-    LARGEST - why.number() + 1
-}
+use word::refusal_word;
+use word::shortest_word;
 
 // Plan's shortest: the fewest moves of a task.
 #[no_mangle]
 pub extern "C" fn tower_shortest(task: &[u8]) -> u64
     ensures { λ r. ⌜ r ≡ shortestWord (now (task .entry)) ⌝ }
 {
-    match plan::plan(task) {
-        Planned::Plan(p) => p.shortest(),
-        Planned::Refused(why) => refusal_word(why),
-    }
+    shortest_word(task)
 }
 
 // Plan's count: how many shortest routes a task has.
@@ -62,5 +52,19 @@ pub extern "C" fn tower_run(task: &[u8], route: u64, first: u64, out: &mut [u8])
     match run::run(task, route, first, out) {
         Ran::Moves(count) => count as u64,
         Ran::Refused(why) => refusal_word(why),
+    }
+}
+
+// Batch: writes the shortest length of each of many tasks of n discs, laid end to end, as `tower_shortest` answers it, and says how many
+// tasks there are. Refused, it writes nothing.
+#[no_mangle]
+pub extern "C" fn tower_batch(n: u64, tasks: &[u8], out: &mut [u64]) -> u64
+    ensures { λ r. ⌜ r ≡ batchWord n (now (tasks .entry)) (now (out .entry)) ⌝ }
+    ensures { λ _. ⌜ now (out .exit) ≡ batchWrites n (now (tasks .entry)) (now (out .entry)) ⌝ }
+    ensures { λ r. ⌜ Tells r (batchAnswer n (now (tasks .entry)) (now (out .entry))) ⌝ }
+{
+    match batch::batch(n, tasks, out) {
+        Batched::Tasks(count) => count as u64,
+        Batched::Refused(why) => refusal_word(why),
     }
 }

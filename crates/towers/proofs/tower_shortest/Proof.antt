@@ -1,39 +1,13 @@
--- `towers::tower_shortest` meets its contract: at each return the word is that of Plan's answer. Assumes nothing.
+-- `towers::tower_shortest` meets its contract: the word is that of the task. Assumes nothing.
 use borrow.Author.Needs.{needs}
 use Rattle.towers.proofs.tower_shortest.Statement.{statement}
 use Rattle.towers.proofs.tower_shortest.Tie as tie
 
-plan-requires : tie.Need-plan-requires
-plan-requires c κs = search needs
+shortest-word-requires : tie.Need-shortest-word-requires
+shortest-word-requires c κs = search needs
 
-enum-known-p : tie.Need-enum-known-p
-enum-known-p c = search needs
-
-shortest-requires : tie.Need-shortest-requires
-shortest-requires c κs = search needs
-
-enum-known-why : tie.Need-enum-known-why
-enum-known-why c = search needs
-
-refusal-word-requires : tie.Need-refusal-word-requires
-refusal-word-requires c κs = search needs
-
--- Plan answers a plan.
 returns : tie.Need-returns
-returns c = rw (← c .before .before .before .before .plan .ensures, c .before .before .p .given .1) (c .shortest .ensures)
-
--- Plan refuses.
-returns-2 : tie.Need-returns-2
-returns-2 c = rw (← c .before .before .before .before .plan .ensures, c .before .before .why .given .1) (c .refusal-word .ensures)
+returns c = c .shortest-word .ensures
 
 pub tower-shortest-spec : {M : Type 1} → statement M
-tower-shortest-spec =
-    tie.close
-    (tie.spec
-    plan-requires
-    enum-known-p
-    shortest-requires
-    enum-known-why
-    refusal-word-requires
-    returns
-    returns-2)
+tower-shortest-spec = tie.close (tie.spec shortest-word-requires returns)

@@ -1,9 +1,9 @@
--- `towers::refusal_word` meets its contract: a refusal's number is at least 1, so nothing wraps. Assumes nothing.
+-- `word::refusal_word` meets its contract: a refusal's number is at least 1, so nothing wraps. Assumes nothing.
 use native.Mathlib.Omega.{arith}
 use borrow.Author.Needs.{needs}
-use Rattle.towers.proofs.Apart.{number-between}
-use Rattle.towers.proofs.refusal_word.Statement.{statement}
-use Rattle.towers.proofs.refusal_word.Tie as tie
+use Rattle.word.proofs.Apart.{number-between}
+use Rattle.word.proofs.refusal_word.Statement.{statement}
+use Rattle.word.proofs.refusal_word.Tie as tie
 
 number-requires : tie.Need-number-requires
 number-requires c κs = search needs

@@ -1,0 +1,2 @@
+-- Laws of a reply's number.
+pub mod Apart

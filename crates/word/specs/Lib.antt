@@ -1,0 +1,2 @@
+-- What a reply is to the C host: words to be believed.
+pub mod Words
