@@ -6,7 +6,7 @@
 
 #include "towers.h"
 
-/* The pegs of discs 1 to n, n at least 1, at the start and at the goal. */
+/* The pegs of discs 1 to n at the start and at the goal. */
 struct item {
     const char *name;
     const char *start;
@@ -22,9 +22,17 @@ static const struct item items[] = {
     {"a detour", "BBA", "AAB"},
     {"still", "ABC", "ABC"},
     {"six discs", "ABCAAB", "BCABBA"},
+    {"two sizes", "AAA", "C"},
 };
 
 enum { ITEMS = sizeof items / sizeof items[0] };
+
+/* How many discs an item has, or 0 where its start and its goal are not of one size, 1 to TOWER_LIMIT. */
+static size_t discs_of(const struct item *item)
+{
+    size_t n = strlen(item->start);
+    return n <= TOWER_LIMIT && strlen(item->goal) == n ? n : 0;
+}
 
 /* The bytes of an item's task: 2n of them. */
 static void put_task(const struct item *item, size_t n, uint8_t *task)
@@ -66,10 +74,6 @@ static void plan_items(const struct item *some, size_t count, size_t n)
 {
     uint8_t tasks[ITEMS * 2 * TOWER_LIMIT];
     uint64_t fewest[ITEMS];
-    if (n > TOWER_LIMIT) {
-        printf("%s: more than %d discs\n", some->name, TOWER_LIMIT);
-        return;
-    }
     for (size_t i = 0; i < count; i++)
         put_task(&some[i], n, tasks + i * 2 * n);
     uint64_t planned = tower_batch(n, tasks, count * 2 * n, fewest, ITEMS);
@@ -83,13 +87,16 @@ static void plan_items(const struct item *some, size_t count, size_t n)
 
 int main(void)
 {
-    size_t i = 0;
-    while (i < ITEMS) {
-        size_t n = strlen(items[i].start), count = 1;
-        while (i + count < ITEMS && strlen(items[i + count].start) == n)
+    for (size_t i = 0, count; i < ITEMS; i += count) {
+        size_t n = discs_of(&items[i]);
+        count = 1;
+        if (n == 0) {
+            printf("%s: start and goal must have the same number of discs, 1 to %d\n", items[i].name, TOWER_LIMIT);
+            continue;
+        }
+        while (i + count < ITEMS && discs_of(&items[i + count]) == n)
             count++;
         plan_items(&items[i], count, n);
-        i += count;
     }
     return 0;
 }

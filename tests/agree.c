@@ -31,12 +31,15 @@ static uint8_t *page_end(void)
     return p + page;
 }
 
-static uint64_t calls, refusals, ties, moves, entries, bad_entries;
+static uint64_t calls, refusals, ties, moves, entries, bad_entries, refused_with[14];
 
 static void same(const char *call, uint64_t ours, uint64_t theirs)
 {
     calls++;
-    refusals += TOWER_IS_REFUSED(ours);
+    if (TOWER_IS_REFUSED(ours)) {
+        refusals++;
+        refused_with[TOWER_NUMBER(ours)]++;
+    }
     if (ours != theirs) {
         printf("%s: %" PRIu64 ", and %" PRIu64 " by hinz.c\n", call, ours, theirs);
         exit(1);
@@ -104,7 +107,7 @@ static void compare_run(const uint8_t *task, size_t len, uint8_t *end)
     moves += TOWER_IS_REFUSED(answer) ? 0 : answer;
 }
 
-/* Mostly boards of few discs; the limit; and numbers whose double wraps round to that of a board. */
+/* Mostly boards of few discs; those about the limit; and numbers that are a board's but for one high bit, or whose double is. */
 static uint64_t make_discs(void)
 {
     switch (below(8)) {
@@ -113,6 +116,8 @@ static uint64_t make_discs(void)
     case 1:
         return ((uint64_t)1 << 63) + below(64);
     case 2:
+        return ((uint64_t)1 << (8 + below(56))) + below(64);
+    case 3:
         return any();
     default:
         return below(7);
@@ -227,6 +232,17 @@ static void hold_steps(const uint8_t *task, size_t len)
     hold(hinz_place(task, len, route, index + 1, next, n) == 1 && !memcmp(place, next, n), "place");
 }
 
+/* Every refusal of the five calls was met. */
+static void all_refused(void)
+{
+    static const unsigned numbers[] = {1, 2, 3, 4, 5, 6, 13};
+    for (size_t i = 0; i < sizeof numbers / sizeof numbers[0]; i++)
+        if (!refused_with[numbers[i]]) {
+            printf("no call was refused with %u\n", numbers[i]);
+            exit(1);
+        }
+}
+
 int main(void)
 {
     uint8_t *task_end = page_end(), *out_end = page_end();
@@ -251,6 +267,7 @@ int main(void)
         if (i % 4 == 0)
             compare_batch(task_end, out_end);
     }
+    all_refused();
     printf("%" PRIu64 " calls agree: %" PRIu64 " refused, %" PRIu64 " ties, %" PRIu64 " moves; %" PRIu64 " entries of batches, %" PRIu64 " of them refused\n", calls, refusals, ties, moves, entries, bad_entries);
     return 0;
 }

@@ -5,7 +5,7 @@ command -v pkg-config >/dev/null || { echo "install.sh: no pkg-config: towers.pc
 there=$(mktemp -d) || exit 2
 trap 'rm -rf "$there"' EXIT
 
-make -s install PREFIX="$there/usr" >"$there/log" 2>&1 || { cat "$there/log" >&2; exit 1; }
+make -s install DESTDIR= PREFIX="$there/usr" >"$there/log" 2>&1 || { cat "$there/log" >&2; exit 1; }
 PKG_CONFIG_PATH=$there/usr/lib/pkgconfig
 export PKG_CONFIG_PATH
 cflags=$(pkg-config --cflags towers) || exit 1

@@ -1,9 +1,8 @@
 -- What Batch answers, and when: the laws for whoever calls it.
-use Prim.Native.Nat.{ℕ, _*_, _<_, _≤_}
+use Prim.Native.Nat.{ℕ, _*_, _≤_}
 use mathlib.Core.Bool.{not}
 use mathlib.Core.List.{List, _++_, map}
-use mathlib.Core.Logic.{inl, inr}
-use mathlib.Core.Path.{_≡_, _∙_, refl, sym}
+use mathlib.Core.Path.{_≡_, sym}
 use native.Mathlib.Omega.{arith}
 use borrow.Author.Tests.{eqb-true, ltb-true, ltb-false, lt-ltb, not-false}
 use lib.Dec.{eqb, ltb}
@@ -15,7 +14,7 @@ use Rattle.board.proofs.Obeys.{answer-obeys, check-obeys, then-obeys}
 use Rattle.board.proofs.Replies.{check-answered}
 use Rattle.word.specs.Words.{shortestWord}
 use Rattle.batch.specs.Answer.{batchAnswer, batchWrites}
-use Rattle.batch.specs.Faults.{Whole, batchFaults}
+use Rattle.batch.specs.Faults.{batchFaults}
 use Rattle.batch.specs.Tasks.{cut, tasksIn, entriesOf}
 use Rattle.batch.proofs.Cuts.{cut-length, not-covered}
 

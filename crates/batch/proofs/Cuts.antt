@@ -2,9 +2,9 @@
 use Prim.Native.Nat.{ℕ, zero, suc, _+_, _-_, _*_, _/_, _<_, _≤_}
 use mathlib.Core.Bool.{true, not}
 use mathlib.Core.List.{List, [], _∷_, _++_, map}
-use mathlib.Core.Logic.{_↔_}
+use mathlib.Core.Logic.{_≢_, _↔_}
 use mathlib.Core.Path.{_≡_, _∙_, refl, sym, ap}
-use native.Mathlib.Nat.{mul-zero, mul-suc, mul-comm, mul-le-mul-right, div-zero, div-mul-le-self, div-eq-of-eq-mul-left}
+use native.Mathlib.Nat.{mul-zero, mul-suc, mul-comm, mul-le-mul-right, div-mul-le-self, div-eq-of-eq-mul-left}
 use native.Mathlib.Omega.{arith}
 use borrow.Author.Tests.{eqb-true, eq-eqb, not-true}
 use lib.Dec.{eqb}
@@ -36,7 +36,7 @@ module _ (f : List ℕ → ℕ) (size : ℕ) where
   pub cut-length : (k : ℕ) (b : List ℕ) → length (map f (cut size k b)) ≡ k
   unfolding cut
   cut-length zero b = refl
-  cut-length (suc k) b = ap suc (cut-length k (drop size b))
+  cut-length (suc k) b = ap suc (cut-length k _)
 
   -- Number i is made of piece i.
   pub cut-at : (k : ℕ) (b : List ℕ) (i z : ℕ) → i < k → getD (map f (cut size k b)) i z ≡ f (take size (drop (size * i) b))
@@ -59,14 +59,15 @@ module _ (f : List ℕ → ℕ) (size : ℕ) where
       let added : map f (cut size (k + 1) b) ≡ map f (cut size k b) ++ (f (take size (drop (size * k) b)) ∷ []) = rw next (cut-more k b) in
       rw (held, piece, added) (stored (map f (cut size k b)) (f (take size (drop (size * k) b)) ∷ []) o k (cut-length k b) (omega arith))
 
--- How many tasks there are is a quotient.
-pub tasks-quotient : (n bytes : ℕ) → tasksIn n bytes ≡ bytes / (2 * n)
-tasks-quotient zero bytes = sym (div-zero bytes)
-tasks-quotient (suc n) bytes = refl
+-- Of some discs there are as many as fit.
+pub tasks-some : (n bytes : ℕ) → n ≢ 0 → tasksIn n bytes ≡ bytes / (2 * n)
+tasks-some zero bytes h = absurd (h refl)
+tasks-some (suc n) bytes h = refl
 
--- As many as there are have no more bytes than the buffer.
+-- They have no more bytes than the buffer.
 pub tasks-within : (n bytes : ℕ) {k : ℕ} → k ≡ tasksIn n bytes → k * (2 * n) ≤ bytes
-tasks-within n bytes e = rw (e, tasks-quotient n bytes) (div-mul-le-self bytes (2 * n))
+tasks-within zero bytes {k} e = omega (arith, mul-zero k)
+tasks-within (suc n) bytes e = rw e (div-mul-le-self bytes (2 * suc n))
 
 -- They make it up exactly where its length is a multiple of theirs.
 pub whole-covered : (n : ℕ) (b : List ℕ) {k : ℕ} → k ≡ tasksIn n (length b) → (k * (2 * n) ≡ length b) ↔ Whole n b

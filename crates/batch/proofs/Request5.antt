@@ -1,5 +1,5 @@
 -- Request 5 holds of every call of Batch without faults.
-use Prim.Native.Nat.{ℕ, suc, _+_, _*_, _-_, _<_, _≤_, _^_}
+use Prim.Native.Nat.{ℕ, _+_, _*_, _-_, _<_, _≤_, _^_}
 use mathlib.Core.List.{List}
 use mathlib.Core.Logic.{_≢_, inl, inr}
 use mathlib.Core.Path.{_≡_, _∙_, refl, sym, ap}
@@ -28,10 +28,6 @@ module _ {n : ℕ} {b out : List ℕ} {k : ℕ} (o : BatchAnswered n b out k) wh
   task-long i h =
       let ends : 2 * n * i + 2 * n ≤ length b = rw (o .whole) (piece-within (2 * n) i k h) in
       omega (arith, length-take (2 * n) (drop (2 * n * i) b), length-drop (2 * n * i) b, ends)
-
-  -- So it is one of n discs.
-  task-discs : (i : ℕ) → i < k → discs (taskAt n b i) ≡ n
-  task-discs i h = omega (arith, task-long i h)
 
   -- Its entry is that of the single call.
   entry : (i : ℕ) → i < k → entryAt n b out i ≡ shortestWord (taskAt n b i)
@@ -93,6 +89,7 @@ request-5 n b out clear =
       answered = answered;
       whole = o .whole;
       none = λ e. rw e;
+      room = o .room;
       entry = entry o;
       fewest-moves = λ i h formed. entry o i h ∙ word-fewest n (taskAt n b i) few (task-long o i h) formed;
       bad-byte = λ i h above. entry o i h ∙ word-bad n (taskAt n b i) few (task-long o i h) above;

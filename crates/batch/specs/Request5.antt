@@ -1,5 +1,5 @@
 -- Request 5 (02, CR 5), said of what Batch answers and writes.
-use Prim.Native.Nat.{ℕ, _*_, _-_, _<_, _^_}
+use Prim.Native.Nat.{ℕ, _*_, _-_, _≤_, _<_, _^_}
 use mathlib.Core.List.{List}
 use mathlib.Core.Logic.{_≢_}
 use mathlib.Core.Path.{_≡_}
@@ -25,11 +25,12 @@ pub record Beside (n j : ℕ) (b c : List ℕ) : Type 0 where
   pub others : (i : ℕ) → i ≢ j → taskAt n c i ≡ taskAt n b i
 
 pub record Request5 (n : ℕ) (b out : List ℕ) : Type 0 where
-  -- The reply is the number of tasks, which make up the whole buffer; of no discs there are none.
+  -- The reply is the number of tasks, which make up the whole buffer; of no discs there are none. Each has an entry.
   pub count : ℕ
   pub answered : batchAnswer n b out ≡ answer count
   pub whole : length b ≡ count * (2 * n)
   pub none : n ≡ 0 → count ≡ 0
+  pub room : count ≤ length out
   -- Each entry is what the single call gives for the bytes of its task.
   pub entry : (i : ℕ) → i < count → entryAt n b out i ≡ shortestWord (taskAt n b i)
   -- So it is the fewest moves from the start of its task to the goal, or 2 ^ 64 − 3 where a byte of its task is above 2.

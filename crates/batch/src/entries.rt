@@ -9,7 +9,7 @@ use word::shortest_word;
 
 // Writes the shortest length of each of so many tasks of so many bytes.
 pub fn write_entries(tasks: &[u8], size: usize, count: usize, out: &mut [u64])
-    requires { ⌜ length (now tasks) ≡ count * size ⌝ }
+    requires { ⌜ count * size ≤ length (now tasks) ⌝ }
     requires { ⌜ count ≤ length (now out) ⌝ }
     ensures { λ _. ⌜ now (out .exit) ≡ map shortestWord (cut size count (now (tasks .entry))) ++ drop count (now (out .entry)) ⌝ }
 {

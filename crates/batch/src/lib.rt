@@ -2,8 +2,10 @@
 mod entries;
 
 ghost use mathlib.Core.Path.{_≡_};
-ghost use Prim.Native.Nat.{_/_};
+ghost use Prim.Native.Nat.{_≤_};
+ghost use Rattle.board.specs.Task.{limit};
 ghost use Rattle.batch.specs.Answer.{batchReply, batchAnswer, batchWrites};
+ghost use Rattle.batch.specs.Tasks.{tasksIn};
 use board::LIMIT;
 use board::Refusal;
 
@@ -13,11 +15,12 @@ pub enum Batched {
     Refused(Refusal),
 }
 
-// How many tasks of so many bytes each there are in so many bytes; of no bytes none.
-fn tasks_in(bytes: usize, size: usize) -> usize
-    ensures { λ r. ⌜ r ≡ bytes / size ⌝ }
+// How many tasks of n discs there are in so many bytes; of no discs none.
+fn tasks_in(n: usize, bytes: usize) -> usize
+    requires { ⌜ n ≤ limit ⌝ }
+    ensures { λ r. ⌜ r ≡ tasksIn n bytes ⌝ }
 {
-    if size == 0 { 0 } else { bytes / size }
+    if n == 0 { 0 } else { bytes / (2 * n) }
 }
 
 // Batch: writes the shortest length of each of many tasks of n discs, laid end to end, as C gets it from the single call, and answers how
@@ -29,8 +32,8 @@ pub fn batch(n: u64, tasks: &[u8], out: &mut [u64]) -> Batched
     if (LIMIT as u64) < n {
         return Batched::Refused(Refusal::TooManyDiscs);
     }
+    let count = tasks_in(n as usize, tasks.len());
     let size = 2 * n as usize;
-    let count = tasks_in(tasks.len(), size);
     let covered = count * size;
     if covered != tasks.len() {
         return Batched::Refused(Refusal::NotWholeTasks);

@@ -1,10 +1,8 @@
 -- Each number that C gets tells its reply: no answer is taken for a refusal, nor one refusal for another.
 use Prim.Native.Nat.{ℕ, _*_, _≤_, _<_, _^_}
 use mathlib.Core.List.{List}
-use mathlib.Core.Path.{_≡_}
 use native.Mathlib.Omega.{arith}
 use lib.ListN.{length}
-use Rattle.board.specs.Task.{limit}
 use Rattle.board.proofs.Replies.{made-refused, made-answered}
 use Rattle.plan.specs.Answer.{gatherAnswer, planAnswer}
 use Rattle.plan.specs.Faults.{gatherFaults}
@@ -52,8 +50,7 @@ run-tells t r i out =
     omega (arith, ran .count, ends-fit (task-ends (ran .routed .sound))))
 
 -- Batch's count, into a buffer of fewer than 2 ^ 63 bytes, 8 for each entry, as every slice is.
-pub batch-tells : (n : ℕ) (b out : List ℕ) {w : ℕ} → w ≡ batchWord n b out → length out * 8 < 2 ^ 63 → Tells w (batchAnswer n b out)
-batch-tells n b out e few =
-    rw e
-    (word-tells (batchAnswer n b out) (λ k e. first-numbered (batchFaults n b out) k (omega arith) (batch-obeys n b out .refuses k .0 e))
-    (λ k e. omega (arith, batch-answered n b out e .room)))
+pub batch-tells : (n : ℕ) (b out : List ℕ) → length out * 8 < 2 ^ 63 → Tells (batchWord n b out) (batchAnswer n b out)
+batch-tells n b out few =
+    word-tells (batchAnswer n b out) (λ k e. first-numbered (batchFaults n b out) k (omega arith) (batch-obeys n b out .refuses k .0 e))
+    (λ k e. omega (arith, batch-answered n b out e .room))

@@ -23,6 +23,6 @@ gatherWord p j = word (gatherAnswer p j)
 abbrev pub runWord : List ℕ → ℕ → ℕ → List ℕ → ℕ
 runWord t r i out = word (runAnswer t r i out)
 
--- How many tasks Batch planned.
+-- How many tasks a batch has.
 abbrev pub batchWord : ℕ → List ℕ → List ℕ → ℕ
 batchWord n b out = word (batchAnswer n b out)

@@ -49,12 +49,14 @@ pub word-tells : (r : Reply ℕ) → ((k : ℕ) → r ≡ refused k → (1 ≤ k
 word-tells (refused j) numbers small =
     let mine = numbers j refl in
     record {
+      numbered = numbers;
       refuses = λ k low high. ((λ e. let same : j ≡ k = omega arith in λ i. refused (same i)), λ e. let same : j ≡ k = cc in rw same);
       answers = λ n e. absurd (refused-answer e);
     }
 word-tells (answer m) numbers small =
     let mine = small m refl in
     record {
+      numbered = numbers;
       refuses = λ k low high. ((λ e. absurd (omega arith)), λ e. absurd (refused-answer (sym e)));
       answers = λ n e. let same : m ≡ n = cc in (same, small n e);
     }

@@ -23,7 +23,9 @@ shortestWord t = word (shortestReply t)
 abbrev pub lastNumber : ℕ
 lastNumber = 13
 
--- A number tells a reply: it is 2 ^ 64 − k exactly where the reply is refused with k, and an answer is itself, below 2 ^ 60.
+-- A number tells a reply: a refusal has one of the numbers 1 to `lastNumber`, the number is 2 ^ 64 − k exactly where the reply is refused
+-- with such a k, and an answer is itself, below 2 ^ 60.
 pub record Tells (w : ℕ) (r : Reply ℕ) : Type 0 where
+  pub numbered : (k : ℕ) → r ≡ refused k → (1 ≤ k) × (k ≤ lastNumber)
   pub refuses : (k : ℕ) → 1 ≤ k → k ≤ lastNumber → (w ≡ 2 ^ 64 - k) ↔ (r ≡ refused k)
   pub answers : (n : ℕ) → r ≡ answer n → (w ≡ n) × (n < 2 ^ limit)

@@ -1,14 +1,14 @@
 -- `batch::batch` meets its contract: each refusal is that of the first fault, and without one the entries are written. Assumes nothing.
 use Prim.Native.Nat.{_*_}
 use mathlib.Core.Logic.{_↔_, inl, inr}
-use mathlib.Core.Path.{_≡_, _∙_, refl, sym}
+use mathlib.Core.Path.{_≡_, _∙_, refl}
 use native.Mathlib.Omega.{arith}
 use borrow.Author.Needs.{needs}
 use lib.ListN.{length}
 use Rattle.batch.specs.Faults.{Whole}
 use Rattle.batch.specs.Tasks.{tasksIn}
 use Rattle.batch.proofs.Calls.{batch-refuses, batch-passes}
-use Rattle.batch.proofs.Cuts.{tasks-quotient, tasks-within, whole-covered}
+use Rattle.batch.proofs.Cuts.{tasks-within, whole-covered}
 use Rattle.batch.proofs.batch.Statement.{statement}
 use Rattle.batch.proofs.batch.Tie as tie
 
@@ -16,11 +16,11 @@ use Rattle.batch.proofs.batch.Tie as tie
 returns : tie.Need-returns
 returns c = batch-refuses _ _ _ (inl (omega arith, refl))
 
-mul-size : tie.Need-mul-size
-mul-size c = search needs
-
 tasks-in-requires : tie.Need-tasks-in-requires
 tasks-in-requires c κs = search needs
+
+mul-size : tie.Need-mul-size
+mul-size c = search needs
 
 -- Where the function starts.
 abbrev start : tie.After-tasks-in → tie.Start
@@ -28,7 +28,7 @@ start c = c .before .before .before .before
 
 -- How many tasks there are.
 counted : (c : tie.After-tasks-in) → c .tasks-in .result ≡ tasksIn (start c .args .n) (length (start c .args .tasks .now))
-counted c = c .tasks-in .ensures ∙ sym (tasks-quotient (start c .args .n) (length (start c .args .tasks .now)))
+counted c = c .tasks-in .ensures
 
 mul-covered : tie.Need-mul-covered
 mul-covered c = omega (arith, tasks-within (start c .args .n) (length (start c .args .tasks .now)) (counted c))
@@ -69,4 +69,4 @@ returns-4 c =
 pub batch-spec : {M : Type 1} → statement M
 batch-spec =
     tie.close
-    (tie.spec returns mul-size tasks-in-requires mul-covered returns-2 returns-3 write-entries-requires same-length returns-4)
+    (tie.spec returns tasks-in-requires mul-size mul-covered returns-2 returns-3 write-entries-requires same-length returns-4)

@@ -1,20 +1,23 @@
--- `batch::tasks_in` meets its contract: by 0 the quotient is 0. Assumes nothing.
-use mathlib.Core.Path.{_≡_, sym}
-use native.Mathlib.Nat.{div-zero}
-use native.Mathlib.Omega.{arith}
+-- `batch::tasks_in` meets its contract: the two cases are those of the definition. Assumes nothing.
+use mathlib.Core.Path.{sym}
 use borrow.Author.Needs.{needs}
+use Rattle.batch.proofs.Cuts.{tasks-some}
 use Rattle.batch.proofs.tasks_in.Statement.{statement}
 use Rattle.batch.proofs.tasks_in.Tie as tie
+
+mul-result : tie.Need-mul-result
+mul-result c = search needs
 
 div-result : tie.Need-div-result
 div-result c = search needs
 
--- No bytes a task.
+-- No discs.
 returns : tie.Need-returns
-returns c = let none : c .before .args .size ≡ 0 = omega arith in rw none (sym (div-zero _))
+returns c = search needs
 
+-- Some.
 returns-2 : tie.Need-returns-2
-returns-2 c = search needs
+returns-2 c = sym (tasks-some _ _ (c .if1 .left))
 
 pub tasks-in-spec : {M : Type 1} → statement M
-tasks-in-spec = tie.close (tie.spec div-result returns returns-2)
+tasks-in-spec = tie.close (tie.spec mul-result div-result returns returns-2)

@@ -29,7 +29,7 @@ returns : tie.Need-returns
 returns c =
     let batched = c .before .before .before .before .before .batch .ensures in
     let same = ap word (sym (ap batchReply (c .before .count .given .1)) ∙ batched .0) in
-    (same, (batched .1, batch-tells _ _ _ same (omega arith)))
+    (same, (batched .1, rw same (batch-tells _ _ _ (omega arith))))
 
 same-length-2 : tie.Need-same-length-2
 same-length-2 c = search needs
@@ -39,7 +39,7 @@ returns-2 : tie.Need-returns-2
 returns-2 c =
     let batched = c .before .before .before .before .before .before .batch .ensures in
     let same = c .refusal-word .ensures ∙ ap word (sym (ap batchReply (c .before .before .why .given .1)) ∙ batched .0) in
-    (same, (batched .1, batch-tells _ _ _ same (omega arith)))
+    (same, (batched .1, rw same (batch-tells _ _ _ (omega arith))))
 
 pub tower-batch-spec : {M : Type 1} → statement M
 tower-batch-spec =
