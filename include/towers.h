@@ -35,7 +35,7 @@ extern "C" {
 #define TOWER_NO_SUCH_ROUTE TOWER_REFUSED(4)    /* the route number is not below the count of shortest routes */
 #define TOWER_NO_SUCH_INDEX TOWER_REFUSED(5)    /* the index is above the length */
 #define TOWER_SHORT_BUFFER TOWER_REFUSED(6)     /* moves remain and `out` has fewer than 2 bytes; or fewer entries than tasks */
-#define TOWER_NOT_WHOLE_TASKS TOWER_REFUSED(13) /* the tasks' bytes are not a multiple of 2n; for n = 0, not none */
+#define TOWER_NOT_WHOLE_TASKS TOWER_REFUSED(13) /* the length of the tasks is not a multiple of 2n; with n = 0, not 0 */
 
 /* Whether an answer, or an entry of tower_batch, is a refusal; TOWER_NUMBER is then its number, one of those above. */
 #define TOWER_IS_REFUSED(answer) ((uint64_t)(answer) >= TOWER_NOT_WHOLE_TASKS)
@@ -63,8 +63,8 @@ uint64_t tower_run(const uint8_t *task, size_t task_len, uint64_t route, uint64_
 /* Plans many tasks of n discs in one call. `tasks` holds them end to end, 2n bytes each; entry i of `out` becomes what tower_shortest
  * answers for bytes 2ni to 2n(i + 1) - 1: the fewest moves, or TOWER_NOT_A_PEG where one of these bytes is above 2, which changes no
  * other entry. Answers how many tasks there are. Entries of `out` after theirs stay as they were. `out_len` counts entries, not bytes.
- * Refuses with TOWER_TOO_MANY_DISCS; TOWER_NOT_WHOLE_TASKS, with n = 0 for any bytes at all: then there are no tasks;
- * TOWER_SHORT_BUFFER for fewer entries than tasks; in this order. */
+ * Refuses with TOWER_TOO_MANY_DISCS, TOWER_NOT_WHOLE_TASKS where `tasks_len` is not a multiple of 2n (with n = 0, not 0),
+ * TOWER_SHORT_BUFFER where `out_len` is below the number of tasks, in this order. With n = 0 there are no tasks. */
 uint64_t tower_batch(uint64_t n, const uint8_t *tasks, size_t tasks_len, uint64_t *out, size_t out_len);
 
 #ifdef __cplusplus

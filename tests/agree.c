@@ -135,39 +135,49 @@ static size_t make_length(uint64_t n)
     return below(8) ? len : len + below(4);
 }
 
-/* Every entry and every byte in front of the entries. */
+/* How many entries there is room for: mostly enough, sometimes one too few. */
+static size_t make_room(size_t count)
+{
+    size_t room = below(4) ? count + below(3) : below(MOST_ENTRIES + 1);
+    if (count && !below(8))
+        room = count - 1;
+    return room < MOST_ENTRIES ? room : MOST_ENTRIES;
+}
+
+/* Each entry is what the single call answers for its task. */
+static void compare_entries(uint64_t n, const uint8_t *tasks, const uint64_t *out, uint64_t count)
+{
+    for (uint64_t i = 0; i < count; i++) {
+        if (out[i] != tower_shortest(tasks + i * 2 * n, 2 * n)) {
+            printf("tower_batch: entry %" PRIu64 " is not what tower_shortest answers\n", i);
+            exit(1);
+        }
+        bad_entries += out[i] == TOWER_NOT_A_PEG;
+    }
+    entries += count;
+}
+
+/* Every entry of the buffer and every number in front of it. */
 static void compare_batch(uint8_t *tasks_end, uint8_t *out_end)
 {
     static uint8_t made[MOST_BYTES + 4];
-    static uint64_t before[MOST_ENTRIES], theirs[MOST_ENTRIES];
+    static uint64_t theirs[MOST_ENTRIES];
     uint64_t n = make_discs();
-    size_t len = make_length(n), count = n && n <= TOWER_LIMIT ? len / (2 * (size_t)n) : 0;
-    size_t room = below(4) ? count + below(3) : below(MOST_ENTRIES + 1);
-    if (below(8) == 0 && count)
-        room = count - 1;
-    if (room > MOST_ENTRIES)
-        room = MOST_ENTRIES;
+    size_t len = make_length(n), room = make_room(n && n <= TOWER_LIMIT ? len / (2 * (size_t)n) : 0);
     uint8_t *tasks = tasks_end - len;
     uint64_t *frame = (uint64_t *)(void *)out_end - MOST_ENTRIES, *out = frame + MOST_ENTRIES - room;
-    unsigned bad = below(2) ? 16 : 1000;
+    unsigned seldom = below(2) ? 16 : 1000;
     for (size_t i = 0; i < len; i++)
-        tasks[i] = made[i] = (uint8_t)(below(bad) ? below(3) : any() >> 8);
+        tasks[i] = made[i] = (uint8_t)(below(seldom) ? below(3) : any() >> 8);
     for (size_t i = 0; i < MOST_ENTRIES; i++)
-        frame[i] = before[i] = any();
-    memcpy(theirs, before, sizeof before);
+        frame[i] = theirs[i] = any();
     uint64_t answer = tower_batch(n, len || below(2) ? tasks : NULL, len, room || below(2) ? out : NULL, room);
     same("tower_batch", answer, hinz_batch(n, made, len, theirs + MOST_ENTRIES - room, room));
     if (memcmp(frame, theirs, sizeof theirs) || memcmp(tasks, made, len)) {
         printf("tower_batch: entries or tasks differ\n");
         exit(1);
     }
-    for (size_t i = 0; !TOWER_IS_REFUSED(answer) && i < answer; i++, entries++) {
-        if (out[i] != tower_shortest(made + i * 2 * n, 2 * n)) {
-            printf("tower_batch: entry %zu is not what tower_shortest answers\n", i);
-            exit(1);
-        }
-        bad_entries += out[i] == TOWER_NOT_A_PEG;
-    }
+    compare_entries(n, made, out, TOWER_IS_REFUSED(answer) ? 0 : answer);
 }
 
 static void hold(int same, const char *call)
