@@ -1,15 +1,30 @@
 // Document 01's boards on Gather and Plan.
+ghost use Prim.Native.Nat.{_≤_};
 use crate::lines;
+
+// A task of 60 discs with one peg in each byte from an index up to another.
+fn with_peg(task: [u8; 120], first: usize, end: usize, peg: u8) -> [u8; 120]
+    requires { ⌜ end ≤ 120 ⌝ }
+{
+    let mut next = task;
+    let mut i = first;
+    while i < end {
+        next[i] = peg;
+        i += 1;
+    }
+    next
+}
 
 // 60 discs, all on peg 0, to all on peg 2.
 pub fn tower_task() -> [u8; 120] {
-    let mut task = [0u8; 120];
-    let mut i = 60;
-    while i < 120 {
-        task[i] = 2;
-        i += 1;
-    }
-    task
+    with_peg([0u8; 120], 60, 120, 2)
+}
+
+// Disc 60 goes from peg 0 to 1, and the smaller ones from 1 to 0.
+pub fn detour_task() -> [u8; 120] {
+    let mut task = [1u8; 120];
+    task[59] = 0;
+    with_peg(task, 60, 119, 0)
 }
 
 fn small() {

@@ -1,6 +1,7 @@
 // One line for each call: its name, and what it answers.
 ghost use Prim.Native.Nat.{_≤_};
 use batch::Batched;
+use board::Verdict;
 use show::text;
 
 fn heading(call: &[u8], name: &[u8]) {
@@ -132,10 +133,49 @@ fn batch_into(n: u64, tasks: &[u8], buffer: &mut [u64]) {
     text(b"\n");
 }
 
-// The answer of Batch, and its buffer of so many entries.
+// A refused call, too, shows its buffer.
+fn wear_into(task: &[u8], route: u64, buffer: &mut [u64]) {
+    match wear::wear(task, route, buffer) {
+        Verdict::Accepted => text(b"accepted"),
+        Verdict::Refused(why) => show::named(b"refused ", why.number()),
+    }
+    text(b":");
+    entries(buffer);
+    text(b"\n");
+}
+
+// The calls that write numbers of 64 bits.
+enum Counts {
+    Batch,
+    Wear,
+}
+
+fn count_into(call: Counts, bytes: &[u8], number: u64, buffer: &mut [u64]) {
+    match call {
+        Counts::Batch => batch_into(number, bytes, buffer),
+        Counts::Wear => wear_into(bytes, number, buffer),
+    }
+}
+
+// The answer of such a call, and its buffer of so many entries.
+fn count(call: Counts, bytes: &[u8], number: u64, room: usize)
+    requires { ⌜ room ≤ 64 ⌝ }
+{
+    count_into(call, bytes, number, &mut [UNWRITTEN; 64][..room]);
+}
+
+// The answer of Batch, and its buffer.
 pub fn batch(name: &[u8], n: u64, tasks: &[u8], room: usize)
-    requires { ⌜ room ≤ 6 ⌝ }
+    requires { ⌜ room ≤ 64 ⌝ }
 {
     heading(b"batch ", name);
-    batch_into(n, tasks, &mut [UNWRITTEN; 6][..room]);
+    count(Counts::Batch, tasks, n, room);
+}
+
+// The answer of Wear, and its buffer.
+pub fn wear(name: &[u8], task: &[u8], route: u64, room: usize)
+    requires { ⌜ room ≤ 64 ⌝ }
+{
+    heading(b"wear ", name);
+    count(Counts::Wear, task, route, room);
 }

@@ -5,6 +5,7 @@ mod faults;
 mod letters;
 mod lines;
 mod routes;
+mod wears;
 
 fn main() {
     boards::all();
@@ -12,4 +13,5 @@ fn main() {
     routes::all();
     letters::all();
     batches::all();
+    wears::all();
 }

@@ -65,7 +65,7 @@ sum-times sum k on on′ =
     ))
 
 -- What the smaller discs add to the sum after disc k is what all k discs add.
-added-more : (s t : List ℕ) (k i j sum : ℕ) → k ≢ 0
+pub added-more : (s t : List ℕ) (k i j sum : ℕ) → k ≢ 0
     → added s t (k - 1) (next s k i) (next t k j) (passed s t k i j sum) ≡ added s t k i j sum
 unfolding added gather
 added-more s t zero i j sum n = absurd (n refl)

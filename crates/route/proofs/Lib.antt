@@ -16,5 +16,3 @@ pub mod Stretches
 pub mod Calls
 pub mod Demand2
 pub mod Annotated
--- The starred boards.
-pub mod Boards

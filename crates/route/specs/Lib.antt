@@ -3,7 +3,6 @@ pub mod Route
 pub mod Part
 pub mod Answer
 pub mod Faults
-pub mod Boards
 -- What demands 2 and 3 say of the calls, and request 1 of Move.
 pub mod Ours
 pub mod Demand2

@@ -40,7 +40,7 @@ impl Stage {
 }
 
 // Whether a route of a way is a detour.
-fn is_detour(way: Way, route: u64) -> bool
+pub fn is_detour(way: Way, route: u64) -> bool
     ensures { λ r. ⌜ r ≡ isDetour way route ⌝ }
 {
     match way {

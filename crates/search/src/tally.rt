@@ -36,6 +36,7 @@ pub struct Tally {
     pub counts: u64,
     pub routes: u64,
     pub parts: u64,
+    pub wears: u64,
     pub moves: u64,
     pub located: u64,
     pub wrong: u64,
@@ -51,6 +52,7 @@ impl Tally {
             counts: 0,
             routes: 0,
             parts: 0,
+            wears: 0,
             moves: 0,
             located: 0,
             wrong: 0,
@@ -79,11 +81,14 @@ impl Tally {
     pub fn with_routes(mut self, distance: u64, lists: u64, right: Right) -> Tally {
         self.routes = plus(self.routes, right.routes);
         self.parts = plus(self.parts, right.parts);
+        self.wears = plus(self.wears, right.wears);
         self.moves = plus(self.moves, distance);
         if lists == 2 {
             self.moves = plus(self.moves, distance);
         }
-        self.judged(lists, right.routes).judged(lists, right.parts)
+        self.judged(lists, right.routes)
+            .judged(lists, right.parts)
+            .judged(lists, right.wears)
     }
 
     // With so many positions located on the routes of a pair, of which so many are right.

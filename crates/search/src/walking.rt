@@ -1,4 +1,5 @@
-// Walks along the routes of a task: Move, Place and Run compared with the legal moves, and how many routes are right.
+// Walks along the routes of a task: Move, Place and Run compared with the legal moves, the moves of each disc counted, and how many routes
+// are right.
 use crate::parting::is_parted;
 use crate::parting::largest_moving;
 use crate::position::NONE;
@@ -9,6 +10,8 @@ use crate::position::wide;
 use crate::tally::MANY;
 use crate::tally::one_if;
 use crate::tally::plus;
+use crate::wearing::count;
+use crate::wearing::is_worn;
 use board::Verdict;
 use route::Moving;
 use run::Ran;
@@ -75,8 +78,16 @@ fn moved(task: &[u8], route: u64, index: u64, n: usize, at: usize, letters: &[u8
     }
 }
 
-// Whether a route of so many moves goes from a start to a goal, by Move, Place and Run alike.
-fn is_right(task: &[u8], route: u64, n: usize, start: usize, goal: usize, distance: u64) -> bool {
+// Whether a route of so many moves goes from a start to a goal, by Move, Place and Run alike. Counts the moves of each disc.
+fn is_right(
+    task: &[u8],
+    route: u64,
+    n: usize,
+    start: usize,
+    goal: usize,
+    distance: u64,
+    moves: &mut [u64; 7],
+) -> bool {
     let mut letters = [0u8; 128];
     if written(task, route, &mut letters) != distance {
         return false;
@@ -87,7 +98,9 @@ fn is_right(task: &[u8], route: u64, n: usize, start: usize, goal: usize, distan
         if !is_placed(task, route, i, n, at) {
             return false;
         }
-        at = moved(task, route, i, n, at, &letters);
+        let next = moved(task, route, i, n, at, &letters);
+        count(moves, largest_moving(at, next, n));
+        at = next;
         i += 1;
     }
     if !is_placed(task, route, distance, n, at) {
@@ -96,19 +109,41 @@ fn is_right(task: &[u8], route: u64, n: usize, start: usize, goal: usize, distan
     at == goal
 }
 
-// How many routes of a task go right, and how many have the right letters.
+// How many routes of a task go right, how many have the right letters, and how many the right wears.
 pub struct Right {
     pub routes: u64,
     pub parts: u64,
+    pub wears: u64,
 }
 
 impl Right {
     // With one more route.
-    fn with(mut self, route: bool, letters: bool) -> Right {
+    fn with(mut self, route: bool, letters: bool, worn: bool) -> Right {
         self.routes = plus(self.routes, one_if(route));
         self.parts = plus(self.parts, one_if(letters));
+        self.wears = plus(self.wears, one_if(worn));
         self
     }
+}
+
+// With one more route of a task, walked from the start.
+fn with_route(
+    right: Right,
+    task: &[u8],
+    route: u64,
+    n: usize,
+    start: usize,
+    goal: usize,
+    distance: u64,
+) -> Right {
+    let mut moves = [0u64; 7];
+    let goes = is_right(task, route, n, start, goal, distance, &mut moves);
+    let largest = largest_moving(start, goal, n);
+    right.with(
+        goes,
+        is_parted(task, route, largest, distance),
+        is_worn(task, route, n, &moves),
+    )
 }
 
 // Of the routes of a task, as many as it has shortest lists, those that are right.
@@ -120,17 +155,14 @@ pub fn right_routes(
     distance: u64,
     lists: u64,
 ) -> Right {
-    let largest = largest_moving(start, goal, n);
     let mut right = Right {
         routes: 0,
         parts: 0,
+        wears: 0,
     };
     let mut r = 0;
     while r < lists {
-        right = right.with(
-            is_right(task, r, n, start, goal, distance),
-            is_parted(task, r, largest, distance),
-        );
+        right = with_route(right, task, r, n, start, goal, distance);
         r += 1;
     }
     right

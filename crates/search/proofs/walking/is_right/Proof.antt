@@ -6,10 +6,10 @@ use Rattle.search.proofs.walking.is_right.Statement.{statement}
 use Rattle.search.proofs.walking.is_right.Tie as tie
 
 abbrev Inv-loop : tie.InvT-loop
-Inv-loop task route n start goal distance letters at₀ i₀ at i = i ≤ distance
+Inv-loop task route n start goal distance moves₀ letters at₀ i₀ moves at i = i ≤ distance
 
 abbrev μ-loop : tie.MeasureT-loop
-μ-loop task route n start goal distance letters at₀ i₀ at i = distance - i
+μ-loop task route n start goal distance moves₀ letters at₀ i₀ moves at i = distance - i
 
 written-requires : tie.Need-written-requires Inv-loop μ-loop
 written-requires c κs = search needs
@@ -28,6 +28,12 @@ returns-2 c = search needs
 
 moved-requires : tie.Need-moved-requires Inv-loop μ-loop
 moved-requires c κs = search needs
+
+largest-moving-requires : tie.Need-largest-moving-requires Inv-loop μ-loop
+largest-moving-requires c κs = search needs
+
+count-requires : tie.Need-count-requires Inv-loop μ-loop
+count-requires c κs = search needs
 
 add-i : tie.Need-add-i Inv-loop μ-loop
 add-i c = search needs
@@ -59,6 +65,8 @@ is-right-spec =
     is-placed-requires
     returns-2
     moved-requires
+    largest-moving-requires
+    count-requires
     add-i
     loop-less
     loop-again

@@ -6,25 +6,16 @@ use Rattle.search.proofs.walking.right_routes.Statement.{statement}
 use Rattle.search.proofs.walking.right_routes.Tie as tie
 
 abbrev Inv-loop : tie.InvT-loop
-Inv-loop task n start goal distance lists largest right₀ r₀ right r = r ≤ lists
+Inv-loop task n start goal distance lists right₀ r₀ right r = r ≤ lists
 
 abbrev μ-loop : tie.MeasureT-loop
-μ-loop task n start goal distance lists largest right₀ r₀ right r = lists - r
-
-largest-moving-requires : tie.Need-largest-moving-requires Inv-loop μ-loop
-largest-moving-requires c κs = search needs
+μ-loop task n start goal distance lists right₀ r₀ right r = lists - r
 
 loop-holds : tie.Need-loop-holds Inv-loop μ-loop
 loop-holds c = search needs
 
-is-right-requires : tie.Need-is-right-requires Inv-loop μ-loop
-is-right-requires c κs = search needs
-
-is-parted-requires : tie.Need-is-parted-requires Inv-loop μ-loop
-is-parted-requires c κs = search needs
-
-with-requires : tie.Need-with-requires Inv-loop μ-loop
-with-requires c κs = search needs
+with-route-requires : tie.Need-with-route-requires Inv-loop μ-loop
+with-route-requires c κs = search needs
 
 add-r : tie.Need-add-r Inv-loop μ-loop
 add-r c = search needs
@@ -44,11 +35,8 @@ right-routes-spec =
     (tie.spec
     Inv-loop
     μ-loop
-    largest-moving-requires
     loop-holds
-    is-right-requires
-    is-parted-requires
-    with-requires
+    with-route-requires
     add-r
     loop-less
     loop-again

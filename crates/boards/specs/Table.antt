@@ -1,33 +1,38 @@
--- The starred boards of document 01, "Boards to try": one table. That the rules reply so is one theorem, `boards-hold` (proofs/Boards).
+-- The starred boards of document 01, "Boards to try", and that of 02, CR 6: one table. That the rules reply so is one theorem, `boards-hold`
+-- (proofs/Table).
 use Prim.Native.Nat.{ℕ}
 use mathlib.Core.List.{List, [], _∷_, _++_}
 use lib.ListN.{replicate}
 use Rattle.board.specs.Move.{Move}
-use Rattle.board.specs.Reply.{Reply, refused, answer}
+use Rattle.board.specs.Reply.{Reply, refused, answer, Check}
 use Rattle.plan.specs.Answer.{gatherAnswer, planAnswer}
 use Rattle.plan.specs.Plan.{shortest, routes}
 use Rattle.plan.specs.declared.answer.Lengths.{Lengths}
 use Rattle.plan.specs.declared.answer.Plan.{Plan}
 use Rattle.plan.specs.declared.answer.Way.{Way}
 use Rattle.plan.specs.declared.answer.Way.the-variants.{Still, Direct, Detour, Tie}
 use Rattle.route.specs.Answer.{moveAnswer, Where, on, off, locateAnswer}
 use Rattle.route.specs.Route.{plain}
 use Rattle.route.specs.declared.answer.DiscMove.{DiscMove}
+use Rattle.wear.specs.Answer.{wearAnswer, wearWrites}
 
--- A call of Gather, Plan, Move or Locate.
+-- A call of Gather, Plan, Move, Locate or Wear.
 pub data BoardCall : Type 0 where
   gathers : (position : List ℕ) (peg : ℕ) → BoardCall
   plans : (start goal : List ℕ) → BoardCall
   moves : (start goal : List ℕ) (route index : ℕ) → BoardCall
   locates : (start goal position : List ℕ) → BoardCall
+  wears : (start goal : List ℕ) (route : ℕ) (buffer : List ℕ) → BoardCall
 
--- What document 01 says of it: a refusal's number; a length; a way with its lengths, the fewest and how many routes; a move; a place.
+-- What the documents say of it: a refusal's number; a length; a way with its lengths, the fewest and how many routes; a move; a place; the
+-- buffer afterwards.
 pub data BoardSays : Type 0 where
   refuses : (number : ℕ) → BoardSays
   stacks : (moves : ℕ) → BoardSays
   plan : (way : Way) (shortest routes : ℕ) → BoardSays
   move : Move → BoardSays
   place : Where → BoardSays
+  wrote : (buffer : List ℕ) → BoardSays
 
 abbrev saysStack : Reply ℕ → BoardSays
 saysStack (refused k) = refuses k
@@ -45,14 +50,19 @@ abbrev saysPlace : Reply Where → BoardSays
 saysPlace (refused k) = refuses k
 saysPlace (answer w) = place w
 
+abbrev saysWrote : Check → List ℕ → BoardSays
+saysWrote (refused k) buffer = refuses k
+saysWrote (answer u) buffer = wrote buffer
+
 -- What the rules reply.
 abbrev pub replyTo : BoardCall → BoardSays
 replyTo (gathers p j) = saysStack (gatherAnswer p j)
 replyTo (plans s t) = saysPlan (planAnswer (s ++ t))
 replyTo (moves s t r i) = saysMove (moveAnswer (s ++ t) r i)
 replyTo (locates s t q) = saysPlace (locateAnswer (s ++ t) q)
+replyTo (wears s t r buffer) = saysWrote (wearAnswer (s ++ t) r buffer) (wearWrites (s ++ t) r buffer)
 
--- A call, and what document 01 says of it.
+-- A call, and what the documents say of it.
 pub record Board : Type 0 where
   pub call : BoardCall
   pub says : BoardSays
@@ -79,4 +89,5 @@ boards =
     ∷ board (locates (1 ∷ 0 ∷ []) (0 ∷ 1 ∷ []) (2 ∷ 0 ∷ [])) (place (on 1 0))
     ∷ board (locates (1 ∷ 0 ∷ []) (0 ∷ 1 ∷ []) (1 ∷ 2 ∷ [])) (place (on 1 1))
     ∷ board (locates (1 ∷ 0 ∷ []) (0 ∷ 1 ∷ []) (0 ∷ 0 ∷ [])) (place off)
+    ∷ board (wears (1 ∷ 1 ∷ 0 ∷ []) (0 ∷ 0 ∷ 1 ∷ []) 0 (0 ∷ 0 ∷ 0 ∷ [])) (wrote (2 ∷ 1 ∷ 2 ∷ []))
     ∷ []
