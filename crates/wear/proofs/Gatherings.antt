@@ -13,7 +13,7 @@ use Rattle.plan.specs.Inner.Three.{Three}
 use Rattle.plan.proofs.Three.{three-third, three-swap, three-turn, three-flip, compare-pegs}
 use Rattle.route.specs.Route.{carry, gathering}
 use Rattle.route.proofs.Gatherings.Gathering.{gathering-none, gathering-home, gathering-apart, gathering-away}
-use Rattle.wear.specs.Inner.Smaller.{off}
+use Rattle.wear.specs.Inner.Below.{off}
 use Rattle.wear.specs.Wear.{wear}
 use Rattle.wear.proofs.Wears.{wear-append, wear-here, wear-other}
 

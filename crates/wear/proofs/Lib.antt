@@ -7,8 +7,9 @@ pub mod Wears
 -- Those of gatherings and of towers.
 pub mod Gatherings
 -- Those of the discs below the one that crosses.
-pub mod Smaller
--- Those of a route, and of one from a tower to a tower.
+pub mod Below
+-- Those of a route, by its crossings, and of one from a tower to a tower.
+pub mod Crossings
 pub mod Routes
 pub mod Towers
 -- How they are written.

@@ -1,150 +1,35 @@
--- The wears of a route: of the disc that crosses, of the smaller ones, and of the larger ones, which stay.
-use Prim.Native.Nat.{ℕ, zero, suc, _+_, _-_, _≤_, _<_, _^_}
+-- The wears of a route, by its plan.
+use Prim.Native.Nat.{ℕ, zero, suc, _+_, _-_, _≤_, _<_}
 use mathlib.Core.Bool.{Bool, true, false, cond}
 use mathlib.Core.List.{List, [], _∷_, _++_}
-use mathlib.Core.Logic.{_≢_}
 use mathlib.Core.Path.{_≡_, _∙_, refl, sym, ap}
-use native.Mathlib.Nat.{one-mul, zero-mul}
 use native.Mathlib.Omega.{arith}
 use lib.ListN.{length, replicate}
 use Rattle.board.specs.Peg.{third}
 use Rattle.board.specs.Position.{peg}
 use Rattle.board.proofs.Formed.{formed-pegs}
-use Rattle.board.proofs.Pegs.{third-peg}
 use Rattle.plan.specs.Inner.Sound.{Ends}
-use Rattle.plan.specs.Plan.{largest, lengthsOf, wayOf, planOf}
+use Rattle.plan.specs.Plan.{lengthsOf, wayOf, planOf}
 use Rattle.plan.specs.declared.answer.Lengths.{Lengths}
 use Rattle.plan.specs.declared.answer.Plan.{Plan}
 use Rattle.plan.specs.declared.answer.Way.{Way}
 use Rattle.plan.specs.declared.answer.Way.the-variants.{Still, Tie}
-use Rattle.plan.proofs.Gathering.{Pegs}
-use Rattle.plan.proofs.Three.{three, three-swap}
 use Rattle.route.specs.Inner.Stage.{isDetour}
-use Rattle.route.specs.Route.{carry, gathering, spreading, directRoute, detourRoute, routeOf}
+use Rattle.route.specs.Route.{routeOf}
 use Rattle.route.proofs.Courses.Found.{plan-none, plan-disc}
 use Rattle.route.proofs.Courses.Plan.{plan-pegs, plan-largest}
 use Rattle.route.proofs.Shortest.Routes.{goes-direct, goes-round, way-route}
 use Rattle.route.proofs.Shortest.View.{none, some, largest-view, WayView, direct-less, detour-less, equal, way-view, plan-moving, route-still, route-moving}
-use Rattle.wear.specs.Inner.Smaller.{smaller}
+use Rattle.wear.specs.Inner.Below.{wearsBelow}
 use Rattle.wear.specs.Request6.{crossings}
 use Rattle.wear.specs.Wear.{wear, wears}
-use Rattle.wear.proofs.Gatherings.{gathering-larger, tower-wear}
-use Rattle.wear.proofs.Smaller.{smaller-counted}
-use Rattle.wear.proofs.Wears.{wear-append, wear-backwards, wear-here, wear-other, wears-unmoved}
-
--- A spreading wears as the gathering does.
-spreading-wear : (q : ℕ → ℕ) (k j d : ℕ) → wear d (spreading q k j) ≡ wear d (gathering q k j)
-unfolding spreading
-spreading-wear q k j d = wear-backwards d (gathering q k j)
-
-module _ (p q : ℕ → ℕ) (k : ℕ) where
-  -- A disc other than the one that crosses, on the direct route.
-  pub direct-other : (d : ℕ) → d ≢ suc k →
-      let z = third (p k) (q k) in
-      wear d (directRoute p q k) ≡ wear d (gathering p k z) + wear d (gathering q k z)
-  unfolding directRoute
-  direct-other d n =
-      let z = third (p k) (q k) in
-      omega (
-        arith,
-        wear-append d (gathering p k z) (carry k (p k) (q k) ∷ spreading q k z),
-        wear-other d k (p k) (q k) (spreading q k z) n,
-        spreading-wear q k z d,
-      )
-
-  -- The disc that crosses.
-  pub direct-crosses : wear (suc k) (directRoute p q k) ≡ 1
-  unfolding directRoute
-  direct-crosses =
-      let z = third (p k) (q k) in
-      omega (
-        arith,
-        wear-append (suc k) (gathering p k z) (carry k (p k) (q k) ∷ spreading q k z),
-        wear-here k (p k) (q k) (spreading q k z),
-        spreading-wear q k z (suc k),
-        gathering-larger p k z (suc k) (omega arith),
-        gathering-larger q k z (suc k) (omega arith),
-      )
-
-  -- The same on the detour: here the tower's shift comes between two crossings.
-  pub detour-other : (d : ℕ) → d ≢ suc k
-      → wear d (detourRoute p q k) ≡ wear d (gathering p k (q k)) + wear d (gathering (λ _. q k) k (p k)) + wear d (gathering q k (p k))
-  unfolding detourRoute
-  detour-other d n =
-      let z = third (p k) (q k) in
-      let last = carry k z (q k) ∷ spreading q k (p k) in
-      let shift = gathering (λ _. q k) k (p k) in
-      omega (
-        arith,
-        wear-append d (gathering p k (q k)) (carry k (p k) z ∷ (shift ++ last)),
-        wear-other d k (p k) z (shift ++ last) n,
-        wear-append d shift last,
-        wear-other d k z (q k) (spreading q k (p k)) n,
-        spreading-wear q k (p k) d,
-      )
-
-  pub detour-crosses : wear (suc k) (detourRoute p q k) ≡ 2
-  unfolding detourRoute
-  detour-crosses =
-      let z = third (p k) (q k) in
-      let last = carry k z (q k) ∷ spreading q k (p k) in
-      let shift = gathering (λ _. q k) k (p k) in
-      omega (
-        arith,
-        wear-append (suc k) (gathering p k (q k)) (carry k (p k) z ∷ (shift ++ last)),
-        wear-here k (p k) z (shift ++ last),
-        wear-append (suc k) shift last,
-        wear-here k z (q k) (spreading q k (p k)),
-        spreading-wear q k (p k) (suc k),
-        gathering-larger p k (q k) (suc k) (omega arith),
-        gathering-larger (λ _. q k) k (p k) (suc k) (omega arith),
-        gathering-larger q k (p k) (suc k) (omega arith),
-      )
-
-  -- Larger discs stay.
-  direct-larger : (d : ℕ) → suc k < d → wear d (directRoute p q k) ≡ 0
-  direct-larger d l =
-      let z = third (p k) (q k) in
-      omega (arith, direct-other d (omega arith), gathering-larger p k z d (omega arith), gathering-larger q k z d (omega arith))
-
-  detour-larger : (d : ℕ) → suc k < d → wear d (detourRoute p q k) ≡ 0
-  detour-larger d l =
-      omega (
-        arith,
-        detour-other d (omega arith),
-        gathering-larger p k (q k) d (omega arith),
-        gathering-larger (λ _. q k) k (p k) d (omega arith),
-        gathering-larger q k (p k) d (omega arith),
-      )
-
-  module _ (hp : Pegs p) (hq : Pegs q) where
-    -- The wears of a direct route: no gap, and one crossing.
-    direct-wears : wears (suc k) (directRoute p q k) ≡ smaller p q k (third (p k) (q k)) (third (p k) (q k)) 0 ++ (1 ∷ [])
-    unfolding wears
-    direct-wears =
-        let z = third (p k) (q k) in
-        let free = third-peg (p k) (q k) (hp k) in
-        rw (
-          direct-crosses,
-          smaller-counted p q hp hq (directRoute p q k) k z z 0 free free
-              (λ d l. omega (arith, direct-other (suc d) (omega arith), zero-mul (2 ^ (k - suc d)))),
-        )
-
-    -- Those of a detour: one gap between two crossings, in which the smaller discs shift as a tower.
-    detour-wears : p k ≢ q k → wears (suc k) (detourRoute p q k) ≡ smaller p q k (q k) (p k) 1 ++ (2 ∷ [])
-    unfolding wears
-    detour-wears away =
-        let h = three-swap (three (p k) (q k) (hp k) (hq k) away) in
-        rw (
-          detour-crosses,
-          smaller-counted p q hp hq (detourRoute p q k) k (q k) (p k) 1 (hq k) (hp k)
-              (λ d l. omega (arith, detour-other (suc d) (omega arith), tower-wear k d h l, one-mul (2 ^ (k - suc d)))),
-        )
+use Rattle.wear.proofs.Wears.{wears-unmoved}
+use Rattle.wear.proofs.Crossings.{direct-crosses, direct-larger, direct-wears, detour-crosses, detour-larger, detour-wears}
 
 -- The wears of the discs up to the largest that moves, as they are written: on a detour or on a direct route.
 abbrev pub movedWears : Plan → (ℕ → ℕ) → (ℕ → ℕ) → Bool → List ℕ
-movedWears w p q true = smaller p q (w .largest - 1) (w .to) (w .from) 1 ++ (2 ∷ [])
-movedWears w p q false = smaller p q (w .largest - 1) (third (w .from) (w .to)) (third (w .from) (w .to)) 0 ++ (1 ∷ [])
+movedWears w p q true = wearsBelow p q (w .largest - 1) (w .to) (w .from) 1 ++ (2 ∷ [])
+movedWears w p q false = wearsBelow p q (w .largest - 1) (third (w .from) (w .to)) (third (w .from) (w .to)) 0 ++ (1 ∷ [])
 
 -- How often the disc of a way crosses is told by whether the route is a detour.
 crossings-by : (l : Lengths) (r : ℕ) → crossings (wayOf l) r ≡ cond (isDetour (wayOf l) r) 2 1

@@ -27,7 +27,7 @@ use Rattle.plan.proofs.Sound.{start-gatherable, goal-gatherable}
 use Rattle.route.specs.Inner.Stage.{isDetour}
 use Rattle.route.specs.Route.{routeOf}
 use Rattle.route.proofs.Courses.Plan.{plan-largest}
-use Rattle.wear.specs.Inner.Smaller.{off, movesOf, smaller, Smaller}
+use Rattle.wear.specs.Inner.Below.{off, movesOf, wearsBelow, Writable}
 use Rattle.wear.specs.Wear.{wears}
 use Rattle.wear.proofs.Routes.{movedWears, route-moved, route-wears}
 
@@ -78,18 +78,18 @@ before-stored xs o k w h =
     (sym (append-assoc xs (w ∷ []) (drop (suc k) o)))
 
 -- What is stored for disc m is the last of what is left to write.
-smaller-last : (p q : ℕ → ℕ) (m i j gaps : ℕ) (o : List ℕ) → m ≢ 0 → m ≤ length o →
+below-last : (p q : ℕ → ℕ) (m i j gaps : ℕ) (o : List ℕ) → m ≢ 0 → m ≤ length o →
     let moves = movesOf p q (m - 1) i j gaps in
-    smaller p q (m - 1) (third i (p (m - 1))) (third j (q (m - 1))) (gaps + moves) ++ drop (m - 1) (set o (m - 1) moves)
-    ≡ smaller p q m i j gaps ++ drop m o
-unfolding smaller
-smaller-last p q zero i j gaps o some room = absurd (some refl)
-smaller-last p q (suc m) i j gaps o some room =
+    wearsBelow p q (m - 1) (third i (p (m - 1))) (third j (q (m - 1))) (gaps + moves) ++ drop (m - 1) (set o (m - 1) moves)
+    ≡ wearsBelow p q m i j gaps ++ drop m o
+unfolding wearsBelow
+below-last p q zero i j gaps o some room = absurd (some refl)
+below-last p q (suc m) i j gaps o some room =
     let less : suc m - 1 ≡ m = omega arith in
     let moves = movesOf p q m i j gaps in
-    rw less (before-stored (smaller p q m (third i (p m)) (third j (q m)) (gaps + moves)) o m moves (omega arith))
+    rw less (before-stored (wearsBelow p q m (third i (p m)) (third j (q m)) (gaps + moves)) o m moves (omega arith))
 
-module _ {s t : List ℕ} {m i j gaps : ℕ} {o : List ℕ} (ready : Smaller s t m i j gaps o) (some : m ≢ 0) where
+module _ {s t : List ℕ} {m i j gaps : ℕ} {o : List ℕ} (ready : Writable s t m i j gaps o) (some : m ≢ 0) where
   -- The gaps after disc m fit.
   pub moves-fit : gaps + movesOf (peg s) (peg t) (m - 1) i j gaps < 2 ^ 64
   moves-fit =
@@ -102,8 +102,8 @@ module _ {s t : List ℕ} {m i j gaps : ℕ} {o : List ℕ} (ready : Smaller s t
 
   module _ {i′ j′ w : ℕ} (first : i′ ≡ third i (peg s (m - 1))) (last : j′ ≡ third j (peg t (m - 1))) (moves : w ≡ movesOf (peg s) (peg t) (m - 1) i j gaps) where
     -- Once its entry is stored, the smaller discs can be written.
-    pub smaller-ready : Smaller s t (m - 1) i′ j′ (gaps + w) (set o (m - 1) w)
-    smaller-ready =
+    pub below-ready : Writable s t (m - 1) i′ j′ (gaps + w) (set o (m - 1) w)
+    below-ready =
         record {
           start-there = omega (arith, ready .start-there);
           goal-there = omega (arith, ready .goal-there);
@@ -116,8 +116,8 @@ module _ {s t : List ℕ} {m i j gaps : ℕ} {o : List ℕ} (ready : Smaller s t
         }
 
     -- With what is left to write they make up the same.
-    pub smaller-stored : smaller (peg s) (peg t) (m - 1) i′ j′ (gaps + w) ++ drop (m - 1) (set o (m - 1) w) ≡ smaller (peg s) (peg t) m i j gaps ++ drop m o
-    smaller-stored = rw (first, last, moves) (smaller-last (peg s) (peg t) m i j gaps o some (ready .room))
+    pub below-stored : wearsBelow (peg s) (peg t) (m - 1) i′ j′ (gaps + w) ++ drop (m - 1) (set o (m - 1) w) ≡ wearsBelow (peg s) (peg t) m i j gaps ++ drop m o
+    below-stored = rw (first, last, moves) (below-last (peg s) (peg t) m i j gaps o some (ready .room))
 
 -- Before the first 0 nothing is written.
 pub unmoved-none : (m : ℕ) (o : List ℕ) → o ≡ (take m o ++ replicate (m - m) 0) ++ drop m o
@@ -143,7 +143,7 @@ moved-pegs {s} {t} ends e =
 
 -- Below the largest disc that moves the smaller ones can be written.
 pub moved-ready : {s t : List ℕ} {w : Plan} {i j gaps : ℕ} {o : List ℕ} → Ends s t → w ≡ planOf s t → 0 < w .largest → w .largest ≤ length o
-    → i < 3 → j < 3 → gaps ≤ 1 → Smaller s t (w .largest - 1) i j gaps o
+    → i < 3 → j < 3 → gaps ≤ 1 → Writable s t (w .largest - 1) i j gaps o
 moved-ready {s} {t} {w} ends e some room hi hj few =
     let there : w .largest ≤ length s = rw e (plan-largest s t) in
     record {
@@ -167,19 +167,19 @@ module _ (s t : List ℕ) (ends : Ends s t) {w : Plan} (plan : w ≡ planOf s t)
 
     -- On a detour.
     pub detour-written : isDetour (w .way) r ≡ true
-        → smaller (peg s) (peg t) (w .largest - 1) (w .to) (w .from) 1 ++ drop (w .largest - 1) (set o (w .largest - 1) 2)
+        → wearsBelow (peg s) (peg t) (w .largest - 1) (w .to) (w .from) 1 ++ drop (w .largest - 1) (set o (w .largest - 1) 2)
         ≡ wears (w .largest) (routeOf s t r) ++ drop (w .largest) o
     detour-written around =
-        let below = smaller (peg s) (peg t) (w .largest - 1) (w .to) (w .from) 1 in
+        let below = wearsBelow (peg s) (peg t) (w .largest - 1) (w .to) (w .from) 1 in
         moved-written below 2 (route-moved s t ends plan r some ∙ ap (movedWears w (peg s) (peg t)) around)
 
     -- On a direct route.
     pub direct-written : isDetour (w .way) r ≡ false → {z : ℕ} → z ≡ third (w .from) (w .to)
-        → smaller (peg s) (peg t) (w .largest - 1) z z 0 ++ drop (w .largest - 1) (set o (w .largest - 1) 1)
+        → wearsBelow (peg s) (peg t) (w .largest - 1) z z 0 ++ drop (w .largest - 1) (set o (w .largest - 1) 1)
         ≡ wears (w .largest) (routeOf s t r) ++ drop (w .largest) o
     direct-written straight e =
         let free = third (w .from) (w .to) in
-        let below = smaller (peg s) (peg t) (w .largest - 1) free free 0 in
+        let below = wearsBelow (peg s) (peg t) (w .largest - 1) free free 0 in
         rw e (moved-written below 1 (route-moved s t ends plan r some ∙ ap (movedWears w (peg s) (peg t)) straight))
 
   -- The entries of the discs that move, before zeros for the others, are those of all discs.

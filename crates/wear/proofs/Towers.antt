@@ -21,7 +21,7 @@ use Rattle.route.proofs.Shortest.View.{WayView, direct-less, detour-less, equal
 use Rattle.wear.specs.Request6.{ShiftWears}
 use Rattle.wear.specs.Wear.{wear}
 use Rattle.wear.proofs.Gatherings.{tower-wear}
-use Rattle.wear.proofs.Routes.{direct-other, direct-crosses}
+use Rattle.wear.proofs.Crossings.{direct-other, direct-crosses}
 
 -- The closed form, by the number of the disc.
 pub shift-wears : ShiftWears

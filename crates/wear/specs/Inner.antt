@@ -1,2 +1,2 @@
 -- What our own functions promise each other.
-pub mod Smaller
+pub mod Below

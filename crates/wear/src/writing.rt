@@ -7,7 +7,7 @@ ghost use Rattle.board.specs.Position.{peg};
 ghost use Rattle.plan.specs.Plan.{planOf};
 ghost use Rattle.plan.specs.Inner.Sound.{Ends};
 ghost use Rattle.route.specs.Route.{routeOf};
-ghost use Rattle.wear.specs.Inner.Smaller.{smaller, Smaller};
+ghost use Rattle.wear.specs.Inner.Below.{wearsBelow, Writable};
 ghost use Rattle.wear.specs.Wear.{wears};
 use plan::Plan;
 use route::course::is_detour;
@@ -35,8 +35,8 @@ fn write_smaller(
     gaps: u64,
     out: &mut [u64],
 )
-    requires { ⌜ Smaller (now start) (now goal) k «start_target» «goal_target» gaps (now out) ⌝ }
-    ensures { λ _. ⌜ now (out .exit) ≡ smaller (peg (now (start .entry))) (peg (now (goal .entry))) k «start_target» «goal_target» gaps ++ drop k (now (out .entry)) ⌝ }
+    requires { ⌜ Writable (now start) (now goal) k «start_target» «goal_target» gaps (now out) ⌝ }
+    ensures { λ _. ⌜ now (out .exit) ≡ wearsBelow (peg (now (start .entry))) (peg (now (goal .entry))) k «start_target» «goal_target» gaps ++ drop k (now (out .entry)) ⌝ }
 {
     let mut first = start_target;
     let mut last = goal_target;

@@ -12,15 +12,15 @@ use lib.ListN.{length, drop, length-set}
 use mir.Val.{boolByte}
 use Rattle.board.specs.Position.{peg}
 use Rattle.board.proofs.Formed.{formed-pegs}
-use Rattle.wear.specs.Inner.Smaller.{movesOf, smaller, Smaller}
-use Rattle.wear.proofs.Stored.{moves-counted, moves-fit, smaller-ready, smaller-stored}
+use Rattle.wear.specs.Inner.Below.{movesOf, wearsBelow, Writable}
+use Rattle.wear.proofs.Stored.{moves-counted, moves-fit, below-ready, below-stored}
 use Rattle.wear.proofs.writing.write_smaller.Statement.{statement}
 use Rattle.wear.proofs.writing.write_smaller.Tie as tie
 
 abbrev Inv-loop : tie.InvT-loop
 Inv-loop start goal k start-target goal-target gaps out₀ first₀ last₀ between₀ m₀ out first last between m =
-    (length out ≡ length out₀) × Smaller start goal m first last between out
-    × (smaller (peg start) (peg goal) m first last between ++ drop m out ≡ smaller (peg start) (peg goal) k start-target goal-target gaps ++ drop k out₀)
+    (length out ≡ length out₀) × Writable start goal m first last between out
+    × (wearsBelow (peg start) (peg goal) m first last between ++ drop m out ≡ wearsBelow (peg start) (peg goal) k start-target goal-target gaps ++ drop k out₀)
 
 abbrev μ-loop : tie.MeasureT-loop
 μ-loop start goal k start-target goal-target gaps out₀ first₀ last₀ between₀ m₀ out first last between m = m
@@ -96,15 +96,15 @@ loop-again c =
     let inv = at .before .loop .inv in
     let some : at .before .loop .m ≢ 0 = omega arith in (
       simp length-set (inv .0),
-      smaller-ready (inv .1) some (c .before .third .ensures) (c .third2 .ensures) (counted at),
-      smaller-stored (inv .1) some (c .before .third .ensures) (c .third2 .ensures) (counted at) ∙ inv .2,
+      below-ready (inv .1) some (c .before .third .ensures) (c .third2 .ensures) (counted at),
+      below-stored (inv .1) some (c .before .third .ensures) (c .third2 .ensures) (counted at) ∙ inv .2,
     )
 
 same-length : tie.Need-same-length Inv-loop μ-loop
 same-length c = c .before .loop .inv .0
 
 returns : tie.Need-returns Inv-loop μ-loop
-unfolding smaller
+unfolding wearsBelow
 returns c = let end : c .before .loop .m ≡ 0 = omega arith in rw end at (c .before .loop .inv .2)
 
 pub write-smaller-spec : {M : Type 1} → statement M

@@ -9,7 +9,7 @@ use Rattle.board.proofs.Pegs.{third-peg}
 use Rattle.plan.proofs.Gathering.{Pegs}
 use Rattle.route.specs.Route.{gathering}
 use Rattle.route.specs.declared.answer.DiscMove.{DiscMove}
-use Rattle.wear.specs.Inner.Smaller.{off, movesOf, smaller}
+use Rattle.wear.specs.Inner.Below.{off, movesOf, wearsBelow}
 use Rattle.wear.specs.Wear.{wear, wears}
 use Rattle.wear.proofs.Gatherings.{gathering-largest, gathering-smaller}
 
@@ -41,12 +41,12 @@ module _ (p q : ℕ → ℕ) (hp : Pegs p) (hq : Pegs q) (ms : List DiscMove) wh
       omega (arith, there, gaps-times gaps (off (p k) i) (off (q k) j) (2 ^ (k - suc d)))
 
   -- All of them.
-  pub smaller-counted : (k i j gaps : ℕ) → i < 3 → j < 3 → ((d : ℕ) → d < k → Counted p q k i j gaps ms d) → smaller p q k i j gaps ≡ wears k ms
-  unfolding smaller wears
-  smaller-counted zero i j gaps hi hj h = refl
-  smaller-counted (suc k) i j gaps hi hj h =
+  pub below-counted : (k i j gaps : ℕ) → i < 3 → j < 3 → ((d : ℕ) → d < k → Counted p q k i j gaps ms d) → wearsBelow p q k i j gaps ≡ wears k ms
+  unfolding wearsBelow wears
+  below-counted zero i j gaps hi hj h = refl
+  below-counted (suc k) i j gaps hi hj h =
       rw (
-        smaller-counted k (third i (p k)) (third j (q k)) (gaps + movesOf p q k i j gaps) (third-peg i (p k) hi) (third-peg j (q k) hj)
+        below-counted k (third i (p k)) (third j (q k)) (gaps + movesOf p q k i j gaps) (third-peg i (p k) hi) (third-peg j (q k) hj)
             (λ d l. counted-smaller k i j gaps d hi hj l (h d (omega arith))),
         counted-largest k i j gaps (h k (omega arith)),
       )

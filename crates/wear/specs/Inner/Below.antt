@@ -17,14 +17,14 @@ off i j = cond (eqb i j) 0 1
 abbrev pub movesOf : (ℕ → ℕ) → (ℕ → ℕ) → ℕ → ℕ → ℕ → ℕ → ℕ
 movesOf p q k i j gaps = gaps + off (p k) i + off (q k) j
 
--- So do discs 1 to k, disc k with the targets i and j. Each move of disc k is one gap more for the smaller ones.
-unfoldable pub smaller : (ℕ → ℕ) → (ℕ → ℕ) → ℕ → ℕ → ℕ → ℕ → List ℕ
-smaller p q zero i j gaps = []
-smaller p q (suc k) i j gaps =
-    smaller p q k (third i (p k)) (third j (q k)) (gaps + movesOf p q k i j gaps) ++ (movesOf p q k i j gaps ∷ [])
+-- The wears of discs 1 to k, where disc k has the targets i and j. Each of its moves is one gap more for the smaller ones.
+unfoldable pub wearsBelow : (ℕ → ℕ) → (ℕ → ℕ) → ℕ → ℕ → ℕ → ℕ → List ℕ
+wearsBelow p q zero i j gaps = []
+wearsBelow p q (suc k) i j gaps =
+    wearsBelow p q k (third i (p k)) (third j (q k)) (gaps + movesOf p q k i j gaps) ++ (movesOf p q k i j gaps ∷ [])
 
 -- They can be written: the discs and their entries are there, and the gaps, which in the end are `added`, fit 64 bits.
-pub record Smaller (s t : List ℕ) (k i j gaps : ℕ) (out : List ℕ) : Type 0 where
+pub record Writable (s t : List ℕ) (k i j gaps : ℕ) (out : List ℕ) : Type 0 where
   pub start-there : k ≤ length s
   pub goal-there : k ≤ length t
   pub start-formed : WellFormed s
