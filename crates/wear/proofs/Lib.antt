@@ -13,6 +13,7 @@ pub mod Crossings
 pub mod Routes
 pub mod Towers
 -- How they are written.
+pub mod Gaps
 pub mod Stored
 -- What the call answers.
 pub mod Calls

@@ -12,7 +12,6 @@ use Rattle.board.specs.Task.{discs, start, goal}
 use Rattle.board.proofs.Formed.{formed-pegs}
 use Rattle.plan.specs.Plan.{planOf}
 use Rattle.plan.specs.declared.answer.Way.the-variants.{Still}
-use Rattle.plan.proofs.Sound.{task-ends}
 use Rattle.route.specs.Answer.{lengthOf, taskRoute}
 use Rattle.route.proofs.Courses.Plan.{plan-largest}
 use Rattle.route.proofs.Calls.Answers.{route-length, move-accepts}
@@ -70,7 +69,7 @@ module _ {t : List ℕ} {r : ℕ} {out : List ℕ} (o : WearAnswered t r out) wh
       let s = o .routed .sound in
       written
       ∙ ap (λ (n : ℕ). wears n (taskRoute t r)) (sym (s .start-length))
-      ∙ route-none (start t) (goal t) (task-ends s) refl r e
+      ∙ route-none (start t) (goal t) refl r e
       ∙ ap (λ (n : ℕ). replicate n 0) (s .start-length)
 
   -- What comes after the entries is as it was.
@@ -97,7 +96,6 @@ pub request-6 : (t : List ℕ) (r : ℕ) (out : List ℕ) → Faultless (wearFau
 request-6 t r out clear =
     let (u, accepted) = wear-obeys t r out .answers clear in
     let o = wear-answered t r out accepted in
-    let ends = task-ends (o .routed .sound) in
     record {
       accepted = accepted;
       entry = entry o;
@@ -105,8 +103,8 @@ request-6 t r out clear =
       sum = sum o;
       largest = λ moves.
           entry o (planOf (start t) (goal t) .largest) moves (omega (arith, plan-largest (start t) (goal t), o .routed .sound .start-length))
-          ∙ route-largest (start t) (goal t) ends refl r moves;
-      larger = λ d l few. entry o d (omega arith) few ∙ route-larger (start t) (goal t) ends refl r d l;
+          ∙ route-largest (start t) (goal t) refl r moves;
+      larger = λ d l few. entry o d (omega arith) few ∙ route-larger (start t) (goal t) refl r d l;
       still = still o;
       tower = tower o;
       stay = stay o;

@@ -1,19 +1,14 @@
--- Writing the wears, from the largest disc downwards: the numbers fit, and what is stored is what is left to write.
+-- Writing the wears, from the largest disc downwards: what is stored, and what is left to write, make up the whole.
 use Prim.Native.Nat.{ℕ, zero, suc, _+_, _-_, _≤_, _<_, _^_}
-use mathlib.Core.Bool.{Bool, true, false, not, cond}
+use mathlib.Core.Bool.{true, false}
 use mathlib.Core.List.{List, [], _∷_, _++_, append-assoc, append-nil}
 use mathlib.Core.Logic.{_≢_}
 use mathlib.Core.Path.{_≡_, _∙_, refl, sym, ap}
-use native.Mathlib.Nat.{mul-le-mul-left, mul-le-mul-right, mul-one, one-mul}
 use native.Mathlib.Omega.{arith}
-use lib.Dec.{eqb}
 use lib.ListN.{length, take, drop, set, replicate, length-append, length-set, length-replicate, replicate-append-replicate, take-append-drop}
-use lib.Pow.{pow-pos, pow-mono}
 use lib.Seq.{length-take-le, set-split, drop-at}
-use mir.Val.{boolByte}
 use Rattle.board.specs.Peg.{third}
 use Rattle.board.specs.Position.{peg}
-use Rattle.board.specs.Task.{limit}
 use Rattle.board.proofs.Lists.{stored}
 use Rattle.board.proofs.Pegs.{third-peg}
 use Rattle.plan.specs.Inner.Sound.{Ends}
@@ -21,55 +16,13 @@ use Rattle.plan.specs.Inner.Together.{added}
 use Rattle.plan.specs.Plan.{planOf}
 use Rattle.plan.specs.declared.answer.Plan.{Plan}
 use Rattle.plan.proofs.Bounds.{plan-fits}
-use Rattle.plan.proofs.Fits.{gather-fits}
-use Rattle.plan.proofs.OnePass.{passed, added-more}
-use Rattle.plan.proofs.Sound.{start-gatherable, goal-gatherable}
 use Rattle.route.specs.Inner.Stage.{isDetour}
 use Rattle.route.specs.Route.{routeOf}
 use Rattle.route.proofs.Courses.Plan.{plan-largest}
-use Rattle.wear.specs.Inner.Below.{off, movesOf, wearsBelow, Writable}
+use Rattle.wear.specs.Inner.Below.{movesOf, wearsBelow, Writable}
 use Rattle.wear.specs.Wear.{wears}
+use Rattle.wear.proofs.Gaps.{gaps-more, gaps-least}
 use Rattle.wear.proofs.Routes.{movedWears, route-moved, route-wears}
-
--- A test as the code counts it.
-byte-off : (i j : ℕ) → boolByte (not (eqb i j)) ≡ off i j
-byte-off i j = by (eqb i j)
-  where
-    by : (b : Bool) → boolByte (not b) ≡ cond b 0 1
-    by true = refl
-    by false = refl
-
--- So a disc's moves.
-pub moves-counted : (p q : ℕ → ℕ) (k i j gaps : ℕ)
-    → gaps + boolByte (not (eqb (p k) i)) + boolByte (not (eqb (q k) j)) ≡ movesOf p q k i j gaps
-moves-counted p q k i j gaps = omega (arith, byte-off (p k) i, byte-off (q k) j)
-
--- The gaps after disc m come to what those before it come to in the end.
-pub gaps-more : (s t : List ℕ) (m i j gaps : ℕ) → m ≢ 0
-    → added s t (m - 1) (third i (peg s (m - 1))) (third j (peg t (m - 1))) (gaps + movesOf (peg s) (peg t) (m - 1) i j gaps) ≡ added s t m i j gaps
-gaps-more s t m i j gaps n =
-    let same : gaps + movesOf (peg s) (peg t) (m - 1) i j gaps ≡ passed s t m i j gaps =
-    omega (arith, byte-off (peg s (m - 1)) i, byte-off (peg t (m - 1)) j) in
-    rw same (added-more s t m i j gaps n)
-
--- They never fall.
-pub gaps-least : (s t : List ℕ) (k i j gaps : ℕ) → gaps ≤ added s t k i j gaps
-unfolding added
-gaps-least s t k i j gaps = omega (arith, mul-le-mul-left gaps (pow-pos k), mul-one gaps)
-
--- From one gap or none they fit.
-pub gaps-fit : {s t : List ℕ} {k i j gaps : ℕ} → Ends s t → k < length s → i < 3 → j < 3 → gaps ≤ 1 → added s t k i j gaps < 2 ^ 64
-unfolding added
-gaps-fit {k = k} ends h hi hj few =
-    let within : k ≤ limit = omega (arith, ends .within) in
-    omega (
-      arith,
-      mul-le-mul-right (2 ^ k) few,
-      one-mul (2 ^ k),
-      pow-mono within,
-      gather-fits (start-gatherable ends h hi),
-      gather-fits (goal-gatherable ends h hj),
-    )
 
 -- What is stored before the rest of a buffer comes after what is written before it.
 before-stored : (xs o : List ℕ) (k w : ℕ) → k < length o → xs ++ drop k (set o k w) ≡ (xs ++ (w ∷ [])) ++ drop (suc k) o
@@ -141,10 +94,10 @@ pub moved-pegs : {s t : List ℕ} {w : Plan} → Ends s t → w ≡ planOf s t �
 moved-pegs {s} {t} ends e =
     let fits = plan-fits s t (ends .start-formed) (ends .goal-formed) (ends .within) in rw e (fits .from-fits, fits .to-fits)
 
--- Below the largest disc that moves the smaller ones can be written.
+-- Below the largest disc that moves the smaller ones can be written, where the gaps fit.
 pub moved-ready : {s t : List ℕ} {w : Plan} {i j gaps : ℕ} {o : List ℕ} → Ends s t → w ≡ planOf s t → 0 < w .largest → w .largest ≤ length o
-    → i < 3 → j < 3 → gaps ≤ 1 → Writable s t (w .largest - 1) i j gaps o
-moved-ready {s} {t} {w} ends e some room hi hj few =
+    → i < 3 → j < 3 → added s t (w .largest - 1) i j gaps < 2 ^ 64 → Writable s t (w .largest - 1) i j gaps o
+moved-ready {s} {t} {w} ends e some room hi hj fits =
     let there : w .largest ≤ length s = rw e (plan-largest s t) in
     record {
       start-there = omega arith;
@@ -153,12 +106,12 @@ moved-ready {s} {t} {w} ends e some room hi hj few =
       goal-formed = ends .goal-formed;
       start-target = hi;
       goal-target = hj;
-      fits = gaps-fit ends (omega arith) hi hj few;
+      fits = fits;
       room = omega arith;
     }
 
-module _ (s t : List ℕ) (ends : Ends s t) {w : Plan} (plan : w ≡ planOf s t) (r : ℕ) (o : List ℕ) where
-  module _ (some : 0 < w .largest) (room : w .largest ≤ length o) where
+module _ (s t : List ℕ) {w : Plan} (plan : w ≡ planOf s t) (r : ℕ) (o : List ℕ) where
+  module _ (ends : Ends s t) (some : 0 < w .largest) (room : w .largest ≤ length o) where
     -- What is written below its entry, and then the entry, are the wears up to that disc.
     moved-written : (xs : List ℕ) (v : ℕ) → wears (w .largest) (routeOf s t r) ≡ xs ++ (v ∷ [])
         → xs ++ drop (w .largest - 1) (set o (w .largest - 1) v) ≡ wears (w .largest) (routeOf s t r) ++ drop (w .largest) o
@@ -171,7 +124,7 @@ module _ (s t : List ℕ) (ends : Ends s t) {w : Plan} (plan : w ≡ planOf s t)
         ≡ wears (w .largest) (routeOf s t r) ++ drop (w .largest) o
     detour-written around =
         let below = wearsBelow (peg s) (peg t) (w .largest - 1) (w .to) (w .from) 1 in
-        moved-written below 2 (route-moved s t ends plan r some ∙ ap (movedWears w (peg s) (peg t)) around)
+        moved-written below 2 (route-moved s t plan r ends some ∙ ap (movedWears w (peg s) (peg t)) around)
 
     -- On a direct route.
     pub direct-written : isDetour (w .way) r ≡ false → {z : ℕ} → z ≡ third (w .from) (w .to)
@@ -180,7 +133,7 @@ module _ (s t : List ℕ) (ends : Ends s t) {w : Plan} (plan : w ≡ planOf s t)
     direct-written straight e =
         let free = third (w .from) (w .to) in
         let below = wearsBelow (peg s) (peg t) (w .largest - 1) free free 0 in
-        rw e (moved-written below 1 (route-moved s t ends plan r some ∙ ap (movedWears w (peg s) (peg t)) straight))
+        rw e (moved-written below 1 (route-moved s t plan r ends some ∙ ap (movedWears w (peg s) (peg t)) straight))
 
   -- The entries of the discs that move, before zeros for the others, are those of all discs.
   pub all-written : length s ≤ length o
@@ -193,7 +146,7 @@ module _ (s t : List ℕ) (ends : Ends s t) {w : Plan} (plan : w ≡ planOf s t)
       let rest : drop m ((take m o ++ zeros) ++ drop (length s) o) ≡ zeros ++ drop (length s) o =
       rw (append-assoc (take m o) zeros (drop (length s) o))
       (drop-at (take m o) (zeros ++ drop (length s) o) m (length-take-le m o (omega arith))) in
-      rw (rest, route-wears s t ends plan r) (sym (append-assoc (wears m (routeOf s t r)) zeros (drop (length s) o)))
+      rw (rest, route-wears s t plan r) (sym (append-assoc (wears m (routeOf s t r)) zeros (drop (length s) o)))
 
   -- Where none moves, the zeros are.
   pub none-written : length s ≤ length o → w .largest ≡ 0

@@ -6,6 +6,7 @@ use native.Mathlib.Omega.{arith}
 use borrow.Author.Needs.{needs}
 use lib.ListN.{length, length-set}
 use Rattle.board.proofs.Pegs.{third-peg}
+use Rattle.wear.proofs.Gaps.{detour-fits, direct-fits}
 use Rattle.wear.proofs.Stored.{moved-pegs, moved-ready, detour-written, direct-written}
 use Rattle.wear.proofs.Wears.{wears-sized}
 use Rattle.wear.proofs.writing.write_moved.Statement.{statement}
@@ -28,7 +29,8 @@ write-smaller-requires c κs =
     let start = c .before .before .before .before .before .before .before in
     let pre = start .pre in
     let pegs = moved-pegs (pre .0) (pre .1 .0) in
-    moved-ready (pre .0) (pre .1 .0) (pre .1 .1 .0) (simp length-set (pre .1 .1 .1)) (pegs .1) (pegs .0) (omega arith)
+    moved-ready (pre .0) (pre .1 .0) (pre .1 .1 .0) (simp length-set (pre .1 .1 .1)) (pegs .1) (pegs .0)
+    (detour-fits _ _ (pre .1 .0) _ (pre .1 .1 .0) (pre .0) (sym (c .before .before .is-detour .ensures) ∙ c .before .if1 .taken) (omega arith))
 
 third-requires : tie.Need-third-requires
 third-requires c κs = let pre = c .before .before .before .before .before .before .pre in moved-pegs (pre .0) (pre .1 .0)
@@ -44,7 +46,8 @@ write-smaller-requires-2 c κs =
     let start = c .before .before .before .before .before .before .before .before in
     let pre = start .pre in
     let free : c .before .third .result < 3 = rw (c .before .third .ensures) (third-peg _ _ (moved-pegs (pre .0) (pre .1 .0) .0)) in
-    moved-ready (pre .0) (pre .1 .0) (pre .1 .1 .0) (simp length-set (pre .1 .1 .1)) free free (omega arith)
+    moved-ready (pre .0) (pre .1 .0) (pre .1 .1 .0) (simp length-set (pre .1 .1 .1)) free free
+    (direct-fits _ _ (pre .1 .0) _ (pre .1 .1 .0) (pre .0) (sym (c .before .before .before .is-detour .ensures) ∙ c .before .before .if1 .left) (c .before .third .ensures))
 
 -- By a detour.
 returns : tie.Need-returns
@@ -53,7 +56,7 @@ returns c =
     let start = at .before .before .before .before .before .before in
     let pre = start .pre in
     c .before .before .write-smaller .ensures
-    ∙ detour-written _ _ (pre .0) (pre .1 .0) _ (start .args .out .now) (pre .1 .1 .0) (pre .1 .1 .1) (sym (at .before .is-detour .ensures) ∙ at .if1 .taken)
+    ∙ detour-written _ _ (pre .1 .0) _ (start .args .out .now) (pre .0) (pre .1 .1 .0) (pre .1 .1 .1) (sym (at .before .is-detour .ensures) ∙ at .if1 .taken)
 
 same-length : tie.Need-same-length
 same-length c =
@@ -67,7 +70,7 @@ returns-2 c =
     let start = at .before .before .before .before .before .before in
     let pre = start .pre in
     c .before .before .write-smaller2 .ensures
-    ∙ direct-written _ _ (pre .0) (pre .1 .0) _ (start .args .out .now) (pre .1 .1 .0) (pre .1 .1 .1) (sym (at .before .is-detour .ensures) ∙ at .if1 .left)
+    ∙ direct-written _ _ (pre .1 .0) _ (start .args .out .now) (pre .0) (pre .1 .1 .0) (pre .1 .1 .1) (sym (at .before .is-detour .ensures) ∙ at .if1 .left)
     (c .before .before .before .before .third .ensures)
 
 same-length-2 : tie.Need-same-length-2

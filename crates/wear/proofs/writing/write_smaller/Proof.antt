@@ -13,7 +13,8 @@ use mir.Val.{boolByte}
 use Rattle.board.specs.Position.{peg}
 use Rattle.board.proofs.Formed.{formed-pegs}
 use Rattle.wear.specs.Inner.Below.{movesOf, wearsBelow, Writable}
-use Rattle.wear.proofs.Stored.{moves-counted, moves-fit, below-ready, below-stored}
+use Rattle.wear.proofs.Gaps.{moves-counted}
+use Rattle.wear.proofs.Stored.{moves-fit, below-ready, below-stored}
 use Rattle.wear.proofs.writing.write_smaller.Statement.{statement}
 use Rattle.wear.proofs.writing.write_smaller.Tie as tie
 

@@ -25,7 +25,7 @@ returns : tie.Need-returns
 returns c =
     let start = c .before .before .before .before .before .before .before .before .before in
     let pre = start .pre in
-    c .before .before .before .before .write-unmoved .ensures ∙ none-written _ _ (pre .0) (pre .1 .0) _ (start .args .out .now) (pre .1 .1) (c .if1 .taken)
+    c .before .before .before .before .write-unmoved .ensures ∙ none-written _ _ (pre .1 .0) _ (start .args .out .now) (pre .1 .1) (c .if1 .taken)
 
 write-moved-requires : tie.Need-write-moved-requires
 write-moved-requires c κs =
@@ -42,7 +42,7 @@ returns-2 c =
     let pre = start .pre in
     c .before .before .write-moved .ensures
     ∙ rw (c .before .before .before .before .before .before .before .before .write-unmoved .ensures)
-    (all-written _ _ (pre .0) (pre .1 .0) _ (start .args .out .now) (pre .1 .1))
+    (all-written _ _ (pre .1 .0) _ (start .args .out .now) (pre .1 .1))
 
 pub write-wears-spec : {M : Type 1} → statement M
 write-wears-spec =
