@@ -89,5 +89,5 @@ boards =
     ∷ board (locates (1 ∷ 0 ∷ []) (0 ∷ 1 ∷ []) (2 ∷ 0 ∷ [])) (place (on 1 0))
     ∷ board (locates (1 ∷ 0 ∷ []) (0 ∷ 1 ∷ []) (1 ∷ 2 ∷ [])) (place (on 1 1))
     ∷ board (locates (1 ∷ 0 ∷ []) (0 ∷ 1 ∷ []) (0 ∷ 0 ∷ [])) (place off)
-    ∷ board (wears (1 ∷ 1 ∷ 0 ∷ []) (0 ∷ 0 ∷ 1 ∷ []) 0 (0 ∷ 0 ∷ 0 ∷ [])) (wrote (2 ∷ 1 ∷ 2 ∷ []))
+    ∷ board (wears (1 ∷ 1 ∷ 0 ∷ []) (0 ∷ 0 ∷ 1 ∷ []) 0 (7 ∷ 7 ∷ 7 ∷ 7 ∷ [])) (wrote (2 ∷ 1 ∷ 2 ∷ 7 ∷ []))
     ∷ []

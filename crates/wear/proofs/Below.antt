@@ -9,7 +9,7 @@ use Rattle.board.proofs.Pegs.{third-peg}
 use Rattle.plan.proofs.Gathering.{Pegs}
 use Rattle.route.specs.Route.{gathering}
 use Rattle.route.specs.declared.answer.DiscMove.{DiscMove}
-use Rattle.wear.specs.Inner.Below.{off, movesOf, wearsBelow}
+use Rattle.wear.specs.Inner.Below.{offTarget, movesOf, wearsBelow}
 use Rattle.wear.specs.Wear.{wear, wears}
 use Rattle.wear.proofs.Gatherings.{gathering-largest, gathering-smaller}
 
@@ -28,7 +28,7 @@ module _ (p q : ℕ → ℕ) (hp : Pegs p) (hq : Pegs q) (ms : List DiscMove) wh
   counted-largest : (k i j gaps : ℕ) → Counted p q (suc k) i j gaps ms k → movesOf p q k i j gaps ≡ wear (suc k) ms
   counted-largest k i j gaps h =
       let none : suc k - suc k ≡ 0 = omega arith in
-      let here : wear (suc k) ms ≡ gaps * 2 ^ 0 + off (p k) i + off (q k) j = rw (none, gathering-largest p k i, gathering-largest q k j) at h in
+      let here : wear (suc k) ms ≡ gaps * 2 ^ 0 + offTarget (p k) i + offTarget (q k) j = rw (none, gathering-largest p k i, gathering-largest q k j) at h in
       omega (arith, mul-one gaps)
 
   -- A smaller one, with the gaps that the largest leaves.
@@ -38,7 +38,7 @@ module _ (p q : ℕ → ℕ) (hp : Pegs p) (hq : Pegs q) (ms : List DiscMove) wh
       let more : suc k - suc d ≡ suc (k - suc d) = omega arith in
       let power : 2 ^ suc (k - suc d) ≡ 2 * 2 ^ (k - suc d) = omega arith in
       let there = rw (more, power, gathering-smaller p k i d (hp k) hi l, gathering-smaller q k j d (hq k) hj l) at h in
-      omega (arith, there, gaps-times gaps (off (p k) i) (off (q k) j) (2 ^ (k - suc d)))
+      omega (arith, there, gaps-times gaps (offTarget (p k) i) (offTarget (q k) j) (2 ^ (k - suc d)))
 
   -- All of them.
   pub below-counted : (k i j gaps : ℕ) → i < 3 → j < 3 → ((d : ℕ) → d < k → Counted p q k i j gaps ms d) → wearsBelow p q k i j gaps ≡ wears k ms

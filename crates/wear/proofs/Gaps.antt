@@ -18,11 +18,11 @@ use Rattle.plan.specs.declared.answer.Plan.{Plan}
 use Rattle.plan.proofs.OnePass.{passed, added-more}
 use Rattle.plan.proofs.Sound.{ends-fit}
 use Rattle.route.specs.Inner.Stage.{isDetour}
-use Rattle.wear.specs.Inner.Below.{off, movesOf}
+use Rattle.wear.specs.Inner.Below.{offTarget, movesOf}
 use Rattle.wear.proofs.Routes.{rests, once, twice, route-view}
 
 -- A test as the code counts it.
-byte-off : (i j : ℕ) → boolByte (not (eqb i j)) ≡ off i j
+byte-off : (i j : ℕ) → boolByte (not (eqb i j)) ≡ offTarget i j
 byte-off i j = by (eqb i j)
   where
     by : (b : Bool) → boolByte (not b) ≡ cond b 0 1

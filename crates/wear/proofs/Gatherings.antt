@@ -13,7 +13,7 @@ use Rattle.plan.specs.Inner.Three.{Three}
 use Rattle.plan.proofs.Three.{three-third, three-swap, three-turn, three-flip, compare-pegs}
 use Rattle.route.specs.Route.{carry, gathering}
 use Rattle.route.proofs.Gatherings.Gathering.{gathering-none, gathering-home, gathering-apart, gathering-away}
-use Rattle.wear.specs.Inner.Below.{off}
+use Rattle.wear.specs.Inner.Below.{offTarget}
 use Rattle.wear.specs.Wear.{wear}
 use Rattle.wear.proofs.Wears.{wear-append, wear-here, wear-other}
 
@@ -36,7 +36,7 @@ gathering-larger p (suc k) j d l =
     ]
 
 -- The largest moves once, where it is not on its target.
-pub gathering-largest : (p : ℕ → ℕ) (k j : ℕ) → wear (suc k) (gathering p (suc k) j) ≡ off (p k) j
+pub gathering-largest : (p : ℕ → ℕ) (k j : ℕ) → wear (suc k) (gathering p (suc k) j) ≡ offTarget (p k) j
 gathering-largest p k j =
     elim (ℕ-discrete (p k) j) [
       | yes e ↦ rw (gathering-home p k e, eq-eqb (p k) j e) (gathering-larger p k j (suc k) (omega arith))
@@ -52,7 +52,8 @@ gathering-largest p k j =
           ))
     ]
 
--- Disc d + 1 of a tower of k discs moves 2 ^ (k − (d + 1)) times: once if it is the largest, else as often again as in the tower without it.
+-- Disc d + 1 of a tower of k discs moves 2 ^ (k − (d + 1)) times: once if it is the largest, else twice as often as in the tower without
+-- the largest.
 pub tower-wear : (k d : ℕ) {x y z : ℕ} → Three x y z → d < k → wear (suc d) (gathering (λ _. x) k y) ≡ 2 ^ (k - suc d)
 tower-wear zero d h l = absurd (omega arith)
 tower-wear (suc k) d {x} {y} {z} h l =
@@ -74,7 +75,7 @@ tower-wear (suc k) d {x} {y} {z} h l =
 
 -- A smaller disc moves as often as in the gathering of the smaller discs, and where the largest crosses also as in the tower that follows it.
 pub gathering-smaller : (p : ℕ → ℕ) (k j d : ℕ) → p k < 3 → j < 3 → d < k
-    → wear (suc d) (gathering p (suc k) j) ≡ off (p k) j * 2 ^ (k - suc d) + wear (suc d) (gathering p k (third j (p k)))
+    → wear (suc d) (gathering p (suc k) j) ≡ offTarget (p k) j * 2 ^ (k - suc d) + wear (suc d) (gathering p k (third j (p k)))
 gathering-smaller p k j d hp hj l =
     elim (compare-pegs (p k) j hp hj) [
       | inl e ↦

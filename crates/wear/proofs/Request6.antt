@@ -36,7 +36,8 @@ module _ {t : List ℕ} {r : ℕ} {out : List ℕ} (o : WearAnswered t r out) wh
   entry zero some l = absurd (omega arith)
   entry (suc d) some l =
       let less : suc d - 1 ≡ d = omega arith in
-      let inside : d < length (wearsOf t r) = omega (arith, wears-length (discs t) (taskRoute t r)) in
+      let size : length (wearsOf t r) ≡ discs t = wears-length (discs t) _ in
+      let inside : d < length (wearsOf t r) = omega arith in
       rw (less, o .wrote)
       (List·getD-append (wearsOf t r) (drop (discs t) out) 0 d inside ∙ wears-at (discs t) (taskRoute t r) d (omega arith))
 

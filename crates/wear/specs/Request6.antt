@@ -26,7 +26,7 @@ abbrev pub isMoveOf : ℕ → Reply DiscMove → ℕ
 isMoveOf d (refused k) = 0
 isMoveOf d (answer m) = cond (eqb (m .disc) d) 1 0
 
--- At how many indexes, so many from i on, it does.
+-- At how many of the n indexes from i on Move answers a move of disc d.
 unfoldable pub movesSaid : List ℕ → ℕ → ℕ → ℕ → ℕ → ℕ
 movesSaid t r d i zero = 0
 movesSaid t r d i (suc n) = isMoveOf d (moveAnswer t r i) + movesSaid t r d (suc i) n

@@ -41,9 +41,9 @@ fn write_smaller(
     let mut first = start_target;
     let mut last = goal_target;
     let mut between = gaps;
-    let mut m = k;
-    while 0 < m {
-        let below = m - 1;
+    let mut d = k;
+    while 0 < d {
+        let below = d - 1;
         let x = start[below];
         let y = goal[below];
         let moves = between + (x != first) as u64 + (y != last) as u64;
@@ -51,7 +51,7 @@ fn write_smaller(
         between += moves;
         first = board::third(first, x);
         last = board::third(last, y);
-        m = below;
+        d = below;
     }
 }
 

@@ -10,12 +10,12 @@ use Rattle.board.specs.Position.{WellFormed}
 use Rattle.plan.specs.Inner.Together.{added}
 
 -- 1 where a disc on peg i is not on its target j, else 0.
-abbrev pub off : ℕ → ℕ → ℕ
-off i j = cond (eqb i j) 0 1
+abbrev pub offTarget : ℕ → ℕ → ℕ
+offTarget i j = cond (eqb i j) 0 1
 
 -- How often disc k + 1 moves: once in each gap between two moves of larger discs, and before and after them where it is not on its target.
 abbrev pub movesOf : (ℕ → ℕ) → (ℕ → ℕ) → ℕ → ℕ → ℕ → ℕ → ℕ
-movesOf p q k i j gaps = gaps + off (p k) i + off (q k) j
+movesOf p q k i j gaps = gaps + offTarget (p k) i + offTarget (q k) j
 
 -- The wears of discs 1 to k, where disc k has the targets i and j. Each of its moves is one gap more for the smaller ones.
 unfoldable pub wearsBelow : (ℕ → ℕ) → (ℕ → ℕ) → ℕ → ℕ → ℕ → ℕ → List ℕ

@@ -1,5 +1,5 @@
--- `wear::writing::write_smaller` meets its contract. The loop's invariant: discs 1 to m can be written, and what is left to write, before
--- the entries above, makes up the whole. The measure is m. Assumes nothing.
+-- `wear::writing::write_smaller` meets its contract. The loop's invariant: discs 1 to d can be written, and what is left to write, before
+-- the entries above, makes up the whole. The measure is d. Assumes nothing.
 use Prim.Native.Nat.{_+_, _-_, _<_, _^_}
 use mathlib.Core.Bool.{not}
 use mathlib.Core.List.{_++_}
@@ -19,12 +19,12 @@ use Rattle.wear.proofs.writing.write_smaller.Statement.{statement}
 use Rattle.wear.proofs.writing.write_smaller.Tie as tie
 
 abbrev Inv-loop : tie.InvT-loop
-Inv-loop start goal k start-target goal-target gaps out₀ first₀ last₀ between₀ m₀ out first last between m =
-    (length out ≡ length out₀) × Writable start goal m first last between out
-    × (wearsBelow (peg start) (peg goal) m first last between ++ drop m out ≡ wearsBelow (peg start) (peg goal) k start-target goal-target gaps ++ drop k out₀)
+Inv-loop start goal k start-target goal-target gaps out₀ first₀ last₀ between₀ d₀ out first last between d =
+    (length out ≡ length out₀) × Writable start goal d first last between out
+    × (wearsBelow (peg start) (peg goal) d first last between ++ drop d out ≡ wearsBelow (peg start) (peg goal) k start-target goal-target gaps ++ drop k out₀)
 
 abbrev μ-loop : tie.MeasureT-loop
-μ-loop start goal k start-target goal-target gaps out₀ first₀ last₀ between₀ m₀ out first last between m = m
+μ-loop start goal k start-target goal-target gaps out₀ first₀ last₀ between₀ d₀ out first last between d = d
 
 loop-holds : tie.Need-loop-holds Inv-loop μ-loop
 loop-holds c = (refl, c .before .before .before .pre, refl)
@@ -33,22 +33,22 @@ loop-holds c = (refl, c .before .before .before .pre, refl)
 abbrev start : tie.In-loop Inv-loop μ-loop → tie.Start Inv-loop μ-loop
 start c = c .before .before .before .before .before
 
--- How often disc m moves, as the code counts it.
+-- How often disc d moves, as the code counts it.
 counted : (c : tie.In-loop Inv-loop μ-loop) → (
     let at = c .before .loop in
     let p = peg (start c .args .start .now) in
     let q = peg (start c .args .goal .now) in
-    at .between + boolByte (not (eqb (p (at .m - 1)) (at .first))) + boolByte (not (eqb (q (at .m - 1)) (at .last)))
-    ≡ movesOf p q (at .m - 1) (at .first) (at .last) (at .between)
+    at .between + boolByte (not (eqb (p (at .d - 1)) (at .first))) + boolByte (not (eqb (q (at .d - 1)) (at .last)))
+    ≡ movesOf p q (at .d - 1) (at .first) (at .last) (at .between)
     )
 counted c =
     let at = c .before .loop in
-    moves-counted (peg (start c .args .start .now)) (peg (start c .args .goal .now)) (at .m - 1) (at .first) (at .last) (at .between)
+    moves-counted (peg (start c .args .start .now)) (peg (start c .args .goal .now)) (at .d - 1) (at .first) (at .last) (at .between)
 
 -- The gaps after it fit.
 fit : (c : tie.In-loop Inv-loop μ-loop) → (
     let at = c .before .loop in
-    at .between + movesOf (peg (start c .args .start .now)) (peg (start c .args .goal .now)) (at .m - 1) (at .first) (at .last) (at .between) < 2 ^ 64
+    at .between + movesOf (peg (start c .args .start .now)) (peg (start c .args .goal .now)) (at .d - 1) (at .first) (at .last) (at .between) < 2 ^ 64
     )
 fit c = moves-fit (c .before .loop .inv .1) (omega arith)
 
@@ -95,7 +95,7 @@ loop-again : tie.Need-loop-again Inv-loop μ-loop
 loop-again c =
     let at = c .before .before .before .before in
     let inv = at .before .loop .inv in
-    let some : at .before .loop .m ≢ 0 = omega arith in (
+    let some : at .before .loop .d ≢ 0 = omega arith in (
       simp length-set (inv .0),
       below-ready (inv .1) some (c .before .third .ensures) (c .third2 .ensures) (counted at),
       below-stored (inv .1) some (c .before .third .ensures) (c .third2 .ensures) (counted at) ∙ inv .2,
@@ -106,7 +106,7 @@ same-length c = c .before .loop .inv .0
 
 returns : tie.Need-returns Inv-loop μ-loop
 unfolding wearsBelow
-returns c = let end : c .before .loop .m ≡ 0 = omega arith in rw end at (c .before .loop .inv .2)
+returns c = let end : c .before .loop .d ≡ 0 = omega arith in rw end at (c .before .loop .inv .2)
 
 pub write-smaller-spec : {M : Type 1} → statement M
 write-smaller-spec =
