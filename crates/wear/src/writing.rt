@@ -25,7 +25,8 @@ fn write_unmoved(m: usize, n: usize, out: &mut [u64])
 }
 
 // Writes the wears of the k smallest discs. Between two moves of larger discs each of them moves once, to make way; before the first such
-// move, and after the last, once more where it is not on its target. `gaps` is how often a move of a larger disc follows another.
+// move, and after the last, once more where it is not on its target. `gaps` is how often a move of a disc larger than these follows
+// another, and `between` how often one of a disc larger than disc d does.
 fn write_smaller(
     start: &[u8],
     goal: &[u8],
@@ -55,7 +56,7 @@ fn write_smaller(
     }
 }
 
-// Writes the wears of the discs up to the largest that moves: once on a direct route, twice on a detour, with one gap between.
+// Writes the wears of the discs up to the largest that moves, which crosses once on a direct route, and twice on a detour, with one gap.
 fn write_moved(start: &[u8], goal: &[u8], p: Plan, route: u64, out: &mut [u64])
     requires { ⌜ Ends (now start) (now goal) ⌝ }
     requires { ⌜ p ≡ planOf (now start) (now goal) ⌝ }
