@@ -16,7 +16,7 @@ PACE = target/staticlib/libpace.a
 HEADER = include/towers.h
 OUT = target/c
 SOURCES = crates.txt $(shell find crates/board crates/plan crates/route crates/run crates/word crates/batch crates/towers -name '*.rt' -o -name '*.antt')
-PACE_SOURCES = crates.txt $(shell find crates/board crates/plan crates/route crates/parts crates/session crates/pace -name '*.rt' -o -name '*.antt')
+PACE_SOURCES = crates.txt $(shell find crates/board crates/plan crates/route crates/run crates/parts crates/checker crates/word crates/session crates/pace -name '*.rt' -o -name '*.antt')
 
 .PHONY: all library header example test bench install clean
 .DELETE_ON_ERROR:

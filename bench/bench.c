@@ -1,8 +1,8 @@
 /* Measures the library beside tests/hinz.c in one run: the same inputs, alternating rounds, medians. Runs are measured beside both of
  * that file's: the one with the topmost disc of each peg and the disc beneath each disc, as the library's, and the one by counting.
  * Batches are measured beside as many of the library's own single calls too.
- * Move, Place, Locate, the letters of Parts and the plays of a session, which are no C calls, come from crates/pace. Letters are
- * measured beside a memset of as many bytes, plays beside what each cannot do without: three fewests, of tests/hinz.c. */
+ * Move, Place, Locate, the checker, the letters of Parts and the plays of a session, which are no C calls, come from crates/pace. Letters
+ * are measured beside a memset of as many bytes, plays beside what each cannot do without: three fewests, of tests/hinz.c. */
 #include <inttypes.h>
 #include <stdio.h>
 #include <stdlib.h>
@@ -13,7 +13,7 @@
 #include "random.h"
 #include "towers.h"
 
-enum { ROUNDS = 101, TASKS = 4096, RUN_BYTES = 8 << 20, PARTS_CALLS = 16, PLAYS = 4096 };
+enum { ROUNDS = 101, TASKS = 4096, RUN_BYTES = 8 << 20, PARTS_CALLS = 16, PLAYS = 4096, CHECKED = 1 << 20 };
 
 typedef uint64_t shortest_fn(const uint8_t *task, size_t len);
 typedef uint64_t run_fn(const uint8_t *task, size_t len, uint64_t route, uint64_t first, uint8_t *out, size_t out_len);
@@ -26,6 +26,9 @@ typedef uint64_t call_fn(size_t i);
 uint64_t pace_move(const uint8_t *task, size_t len, uint64_t route, uint64_t index);
 uint64_t pace_place(const uint8_t *task, size_t len, uint64_t route, uint64_t index, uint8_t *out, size_t out_len);
 uint64_t pace_locate(const uint8_t *task, size_t len, const uint8_t *position, size_t position_len);
+
+/* crates/pace: the number of the route that letter pairs are, or refusal k as 2^64 - k. */
+uint64_t pace_check(const uint8_t *task, size_t len, const uint8_t *letters, size_t letters_len);
 
 /* crates/pace: how many letters Parts wrote, or 0 where it refuses. */
 uint64_t pace_parts(const uint8_t *task, size_t len, uint64_t route, uint64_t first, uint8_t *out, size_t out_len);
@@ -229,6 +232,47 @@ static void bench_indexes(void)
     bench_calls("locate, 60 discs", our_locate, their_locate);
 }
 
+/* Million moves a second: a list of letter pairs. */
+static double time_check(plays_fn *f, const uint8_t *task, size_t n, const uint8_t *letters, size_t moves, uint64_t must)
+{
+    double begun = seconds();
+    uint64_t answer = f(task, 2 * n, letters, 2 * moves);
+    double taken = seconds() - begun;
+    if (answer != must) {
+        fprintf(stderr, "bench: a list is answered with %" PRIu64 "\n", answer);
+        exit(1);
+    }
+    return (double)moves / taken * 1e-6;
+}
+
+static void bench_list(const char *label, const uint8_t *task, size_t n, const uint8_t *letters, size_t moves, uint64_t must)
+{
+    double ours[ROUNDS], theirs[ROUNDS];
+    for (int r = 0; r < ROUNDS; r++) {
+        ours[r] = time_check(pace_check, task, n, letters, moves, must);
+        theirs[r] = time_check(hinz_check, task, n, letters, moves, must);
+    }
+    row(label, ours, theirs, "million moves a second");
+}
+
+/* The one route of a tower of 20 discs, which is accepted, and as many moves and one more of a random task of 60, which are 16. */
+static void bench_check(uint8_t *letters)
+{
+    uint8_t tower[40] = {0};
+    memset(tower + 20, 2, 20);
+    if (tower_run(tower, 40, 0, 0, letters, 2 * CHECKED) != CHECKED - 1) {
+        fprintf(stderr, "bench: a tower of 20 discs has another length\n");
+        exit(1);
+    }
+    bench_list("check, 20 discs, accepted", tower, 20, letters, CHECKED - 1, 0);
+    make_tasks(TOWER_LIMIT);
+    if (tower_run(tasks[0], 2 * TOWER_LIMIT, 0, 0, letters, 2 * CHECKED) != CHECKED) {
+        fprintf(stderr, "bench: a random task of 60 discs has too few moves\n");
+        exit(1);
+    }
+    bench_list("check, 60 discs, 16", tasks[0], TOWER_LIMIT, letters, CHECKED, TOWER_REFUSED(16));
+}
+
 /* As Parts fills the buffer, but with one letter. */
 static uint64_t fill(const uint8_t *task, size_t len, uint64_t route, uint64_t first, uint8_t *out, size_t out_len)
 {
@@ -342,6 +386,9 @@ int main(void)
     printf("Moves, places and locates, a round: %d random tasks of 60 discs, at a random index of each.\n", TASKS);
     printf("%-28s %9s %9s %7s\n", "", "library", "hinz.c", "ratio");
     bench_indexes();
+    printf("Lists of letter pairs, a round: one call with %d moves, the whole route of a tower, or with one more, the first of a random task.\n", CHECKED - 1);
+    printf("%-28s %9s %9s %7s\n", "", "library", "hinz.c", "ratio");
+    bench_check(out);
     printf("Letters, a round: %d calls of parts into 4 MiB, from random indexes, 60 discs.\n", PARTS_CALLS);
     printf("%-28s %9s %9s %7s\n", "", "library", "memset", "ratio");
     bench_parts("parts, 4 MiB, by memset", 4 << 20, out);

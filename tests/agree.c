@@ -31,7 +31,7 @@ static uint8_t *page_end(void)
     return p + page;
 }
 
-static uint64_t calls, refusals, ties, moves, entries, bad_entries, refused_with[14];
+static uint64_t calls, refusals, ties, moves, entries, bad_entries, refused_with[17];
 
 static void same(const char *call, uint64_t ours, uint64_t theirs)
 {

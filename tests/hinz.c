@@ -528,3 +528,82 @@ uint64_t hinz_locate(const uint8_t *task, size_t len, const uint8_t *position, s
     }
     return shortest(&there);
 }
+
+/* A position for walking along letters: the letter of disc 1's peg, which may go to any other, and for each letter the larger discs of its
+ * peg as a set, disc d + 1 as bit d, with bit n for none. */
+struct sets {
+    unsigned small;
+    uint64_t on['C' + 1];
+};
+
+static void fill_sets(struct sets *p, const uint8_t *position, size_t n)
+{
+    for (unsigned letter = 'A'; letter <= 'C'; letter++)
+        p->on[letter] = (uint64_t)1 << n;
+    for (size_t d = 1; d < n; d++)
+        p->on['A' + position[d]] |= (uint64_t)1 << d;
+    p->small = n ? 'A' + position[0] : 256;
+}
+
+/* How many moves are legal, which are made. The smallest of a set is its lowest bit; nothing at or below it may be where it goes. */
+static size_t walk(struct sets *p, const uint8_t *letters, size_t count)
+{
+    unsigned small = p->small;
+    const uint8_t *l = letters, *end = letters + 2 * count;
+    for (; l < end; l += 2) {
+        unsigned from = l[0], to = l[1];
+        if (to - 'A' > 2 || to == small)
+            break;
+        if (from == small) {
+            small = to;
+            continue;
+        }
+        if (from - 'A' > 2)
+            break;
+        uint64_t there = p->on[to], here = p->on[from], disc = here & (0 - here);
+        if (there & (disc | (disc - 1)))
+            break;
+        p->on[from] = here ^ disc;
+        p->on[to] = there | disc;
+    }
+    p->small = small;
+    return (size_t)(l - letters) / 2;
+}
+
+static int same_sets(const struct sets *p, const struct sets *q)
+{
+    return p->small == q->small && p->on['A'] == q->on['A'] && p->on['B'] == q->on['B'] && p->on['C'] == q->on['C'];
+}
+
+static int only_letters(const uint8_t *letters, size_t len)
+{
+    for (size_t i = 0; i < len; i++)
+        if ((uint8_t)(letters[i] - 'A') > 2)
+            return 0;
+    return 1;
+}
+
+uint64_t hinz_check(const uint8_t *task, size_t len, const uint8_t *letters, size_t letters_len)
+{
+    struct plan p;
+    uint64_t fault = planned(task, len, &p);
+    if (fault)
+        return fault;
+    if (letters_len % 2)
+        return refused(14);
+    struct sets at, goal;
+    fill_sets(&at, task, len / 2);
+    size_t made = walk(&at, letters, letters_len / 2);
+    if (made < letters_len / 2)
+        return only_letters(letters + 2 * made, letters_len - 2 * made) ? refused(15) : refused(14);
+    if (made != shortest(&p))
+        return refused(16);
+    fill_sets(&goal, task + len / 2, len / 2);
+    if (!same_sets(&at, &goal))
+        return refused(16);
+    if (routes(&p) == 1)
+        return 0;
+    uint8_t first[2];
+    hinz_run(task, len, 0, 0, first, sizeof first);
+    return memcmp(first, letters, sizeof first) != 0;
+}

@@ -20,5 +20,7 @@ uint64_t hinz_move(const uint8_t *task, size_t len, uint64_t route, uint64_t ind
 uint64_t hinz_place(const uint8_t *task, size_t len, uint64_t route, uint64_t index, uint8_t *out, size_t out_len);
 /* Locate: the index of a position that is on route 0, else 0. */
 uint64_t hinz_locate(const uint8_t *task, size_t len, const uint8_t *position, size_t position_len);
+/* The checker: which of the routes letter pairs are. */
+uint64_t hinz_check(const uint8_t *task, size_t len, const uint8_t *letters, size_t letters_len);
 
 #endif

@@ -4,7 +4,7 @@ use Prim.Native.Nat.{ℕ}
 use mathlib.Core.Bool.{Bool, true, false, _||_, true≢false, false≢true}
 use mathlib.Core.List.{List, [], _∷_, _++_}
 use mathlib.Core.Logic.{_⊎_, inl, inr, _↔_}
-use mathlib.Core.Path.{_≡_, refl, sym}
+use mathlib.Core.Path.{_≡_, _∙_, refl, sym}
 use Rattle.board.specs.Fault.{Fault, fault, First, Faultless, Obeys}
 use Rattle.board.specs.Reply.{Reply, refused, answer, _>>_, Check, pass, check}
 use Rattle.board.proofs.Replies.{refused-answer}
@@ -51,6 +51,10 @@ never-first [] never = tt
 never-first (f ∷ fs) never =
     let clear : ¬ f .there = λ h. never (f .number) (inl (h, refl)) in
     (clear, never-first fs (λ k h. never k (inr (clear, h))))
+
+-- A value has no fault.
+pub answered-faultless : {A : Type 0} {fs : List Fault} {r : Reply A} {a : A} → Obeys fs r → r ≡ answer a → Faultless fs
+answered-faultless {fs = fs} o e = never-first fs (λ k f. refused-answer (sym (o .refuses k .1 f) ∙ e))
 
 -- The first of two lists of faults is in the first list, or in the second where the first has none.
 first-append : (fs gs : List Fault) (k : ℕ) → First (fs ++ gs) k → First fs k ⊎ (Faultless fs × First gs k)

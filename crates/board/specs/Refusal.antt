@@ -1,4 +1,4 @@
--- The refusals and their numbers (document 01, "The operations and when each refuses"; 13: 02, CR 5).
+-- The refusals and their numbers (document 01, "The operations and when each refuses"; 13: 02, CR 5; 14 to 16: 02, CR 7).
 use Prim.Native.Nat.{ℕ}
 use Rattle.board.specs.Reply.{refused, Check, pass}
 use Rattle.board.specs.declared.refusal.Refusal.{Refusal}
@@ -16,6 +16,9 @@ use Rattle.board.specs.declared.refusal.Refusal.the-variants.{
   TooManyPlays,
   BadText,
   NotWholeTasks,
+  NotLetterPairs,
+  IllegalMove,
+  NotShortest,
 }
 use Rattle.board.specs.declared.refusal.Verdict.{Verdict}
 use Rattle.board.specs.declared.refusal.Verdict.the-variants.{Accepted, Refused}
@@ -35,6 +38,9 @@ number UnsoundRecord = 10
 number TooManyPlays = 11
 number BadText = 12
 number NotWholeTasks = 13
+number NotLetterPairs = 14
+number IllegalMove = 15
+number NotShortest = 16
 
 -- What a verdict says, in that number.
 abbrev pub verdictReply : Verdict → Check

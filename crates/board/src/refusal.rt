@@ -16,6 +16,9 @@ pub enum Refusal {
     TooManyPlays,
     BadText,
     NotWholeTasks,
+    NotLetterPairs,
+    IllegalMove,
+    NotShortest,
 }
 
 // What a check of a call's input finds.
@@ -42,6 +45,9 @@ impl Refusal {
             Refusal::TooManyPlays => 11,
             Refusal::BadText => 12,
             Refusal::NotWholeTasks => 13,
+            Refusal::NotLetterPairs => 14,
+            Refusal::IllegalMove => 15,
+            Refusal::NotShortest => 16,
         }
     }
 }

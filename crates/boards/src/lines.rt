@@ -2,6 +2,8 @@
 ghost use Prim.Native.Nat.{_≤_};
 use batch::Batched;
 use board::Verdict;
+use checker::Checked;
+use run::Ran;
 use show::text;
 
 fn heading(call: &[u8], name: &[u8]) {
@@ -178,4 +180,33 @@ pub fn wear(name: &[u8], task: &[u8], route: u64, room: usize)
 {
     heading(b"wear ", name);
     count(Counts::Wear, task, route, room);
+}
+
+fn checked(task: &[u8], letters: &[u8]) {
+    match checker::check_route(task, letters) {
+        Checked::Route(number) => show::named(b"route ", number),
+        Checked::Refused(why) => show::named(b"refused ", why.number()),
+    }
+    text(b"\n");
+}
+
+// The answer of the checker.
+pub fn check(name: &[u8], task: &[u8], letters: &[u8]) {
+    heading(b"check ", name);
+    checked(task, letters);
+}
+
+// Its answer to what Run writes of a route of at most 64 moves.
+pub fn check_run(name: &[u8], task: &[u8], route: u64) {
+    heading(b"check ", name);
+    let mut letters = [0u8; 128];
+    match run::run(task, route, 0, &mut letters) {
+        Ran::Moves(count) => {
+            if count <= 64 {
+                let end = 2 * count;
+                checked(task, &letters[..end]);
+            }
+        }
+        Ran::Refused(why) => show::named(b"refused ", why.number()),
+    }
 }

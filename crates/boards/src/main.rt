@@ -1,6 +1,7 @@
 // Prints what the library answers on the boards of documents 01 and 02 and on faulty calls.
 mod batches;
 mod boards;
+mod checks;
 mod faults;
 mod letters;
 mod lines;
@@ -14,4 +15,5 @@ fn main() {
     letters::all();
     batches::all();
     wears::all();
+    checks::all();
 }

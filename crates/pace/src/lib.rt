@@ -5,8 +5,11 @@ ghost use Rattle.parts.specs.Answer.{partsAnswer, partsWrites};
 ghost use Rattle.session.specs.Answer.{beginAnswer, sessionOr};
 ghost use Rattle.session.specs.Sessions.{recordAfter, callsFrom};
 ghost use Rattle.route.specs.Answer.{placeAnswer, placeWrites};
+ghost use Rattle.checker.specs.Answer.{checkerAnswer};
 ghost use Rattle.pace.specs.Counts.{counted, accepted, moveBytes, indexFound};
+ghost use Rattle.word.specs.Words.{word as wordOf};
 use board::Verdict;
+use checker::Checked;
 use parts::Ran;
 use route::Located;
 use route::Moving;
@@ -66,5 +69,16 @@ pub extern "C" fn pace_locate(task: &[u8], position: &[u8]) -> u64
         Located::On { index, route } => if route == 0 { index } else { 0 },
         Located::Off => 0,
         Located::Refused(_) => 0,
+    }
+}
+
+// The checker: the number of the route, or refusal k as 2^64 - k.
+#[no_mangle]
+pub extern "C" fn pace_check(task: &[u8], letters: &[u8]) -> u64
+    ensures { λ r. ⌜ r ≡ wordOf (checkerAnswer (now (task .entry)) (now (letters .entry))) ⌝ }
+{
+    match checker::check_route(task, letters) {
+        Checked::Route(number) => number,
+        Checked::Refused(why) => word::refusal_word(why),
     }
 }

@@ -14,7 +14,7 @@ use Rattle.run.specs.Inner.Pegs.{beneath, Holds, shifted}
 use Rattle.run.specs.declared.pegs.Pegs.{Pegs}
 
 -- A list has an element wherever it does not read 0.
-inside : (xs : List ℕ) (i : ℕ) → 0 < getD xs i 0 → i < length xs
+pub inside : (xs : List ℕ) (i : ℕ) → 0 < getD xs i 0 → i < length xs
 inside [] i h = omega arith
 inside (x ∷ xs) zero h = omega arith
 inside (x ∷ xs) (suc i) h = omega (arith, inside xs i h)

@@ -1,5 +1,6 @@
 // Every pair of a start and a goal of a size.
 ghost use Prim.Native.Nat.{_<_, _≤_};
+use crate::listing::all_lists;
 use crate::locating::right_positions;
 use crate::position::power;
 use crate::position::write_links;
@@ -48,7 +49,9 @@ fn with_task(
         plan_routes(task) == count,
     );
     let routes = right_routes(task, n, start, goal, distance, count);
-    let walked = planned.with_routes(distance, count, routes);
+    let walked = planned
+        .with_routes(distance, count, routes)
+        .with_lists(all_lists(task, n, start, goal, distance));
     let right = right_positions(links, task, n, size, goal, near, distance);
     walked.with_positions(size as u64, right)
 }

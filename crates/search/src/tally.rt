@@ -1,4 +1,5 @@
 // What the search of a size counts.
+use crate::listing::Lists;
 use crate::walking::Right;
 
 // More than any count here.
@@ -37,6 +38,8 @@ pub struct Tally {
     pub routes: u64,
     pub parts: u64,
     pub wears: u64,
+    pub known: u64,
+    pub lists: u64,
     pub moves: u64,
     pub located: u64,
     pub wrong: u64,
@@ -53,6 +56,8 @@ impl Tally {
             routes: 0,
             parts: 0,
             wears: 0,
+            known: 0,
+            lists: 0,
             moves: 0,
             located: 0,
             wrong: 0,
@@ -82,6 +87,7 @@ impl Tally {
         self.routes = plus(self.routes, right.routes);
         self.parts = plus(self.parts, right.parts);
         self.wears = plus(self.wears, right.wears);
+        self.known = plus(self.known, right.known);
         self.moves = plus(self.moves, distance);
         if lists == 2 {
             self.moves = plus(self.moves, distance);
@@ -89,6 +95,13 @@ impl Tally {
         self.judged(lists, right.routes)
             .judged(lists, right.parts)
             .judged(lists, right.wears)
+            .judged(lists, right.known)
+    }
+
+    // With the lists of legal moves of a pair.
+    pub fn with_lists(mut self, lists: Lists) -> Tally {
+        self.lists = plus(self.lists, lists.right);
+        self.judged(lists.all, lists.right)
     }
 
     // With so many positions located on the routes of a pair, of which so many are right.

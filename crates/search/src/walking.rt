@@ -1,5 +1,6 @@
 // Walks along the routes of a task: Move, Place and Run compared with the legal moves, the moves of each disc counted, and how many routes
 // are right.
+use crate::listing::is_known;
 use crate::parting::is_parted;
 use crate::parting::largest_moving;
 use crate::position::NONE;
@@ -109,19 +110,21 @@ fn is_right(
     at == goal
 }
 
-// How many routes of a task go right, how many have the right letters, and how many the right wears.
+// How many routes of a task go right, how many have the right letters, how many the right wears, and how many the checker knows.
 pub struct Right {
     pub routes: u64,
     pub parts: u64,
     pub wears: u64,
+    pub known: u64,
 }
 
 impl Right {
     // With one more route.
-    fn with(mut self, route: bool, letters: bool, worn: bool) -> Right {
+    fn with(mut self, route: bool, letters: bool, worn: bool, known: bool) -> Right {
         self.routes = plus(self.routes, one_if(route));
         self.parts = plus(self.parts, one_if(letters));
         self.wears = plus(self.wears, one_if(worn));
+        self.known = plus(self.known, one_if(known));
         self
     }
 }
@@ -143,6 +146,7 @@ fn with_route(
         goes,
         is_parted(task, route, largest, distance),
         is_worn(task, route, n, &moves),
+        is_known(task, route),
     )
 }
 
@@ -159,6 +163,7 @@ pub fn right_routes(
         routes: 0,
         parts: 0,
         wears: 0,
+        known: 0,
     };
     let mut r = 0;
     while r < lists {

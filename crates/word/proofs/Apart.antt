@@ -17,7 +17,7 @@ use Rattle.plan.proofs.Calls.{plan-obeys, plan-answered}
 use Rattle.plan.proofs.Sound.{task-ends, ends-fit}
 use Rattle.word.specs.Words.{word, shortestReply, shortestWord, lastNumber, Tells}
 
--- The refusals have the numbers 1 to 13.
+-- The refusals have the numbers 1 to 16.
 pub number-between : (r : Refusal) → (1 ≤ number r) × (number r ≤ lastNumber)
 number-between refusal.OddLength = omega arith
 number-between refusal.TooManyDiscs = omega arith
@@ -32,6 +32,9 @@ number-between refusal.UnsoundRecord = omega arith
 number-between refusal.TooManyPlays = omega arith
 number-between refusal.BadText = omega arith
 number-between refusal.NotWholeTasks = omega arith
+number-between refusal.NotLetterPairs = omega arith
+number-between refusal.IllegalMove = omega arith
+number-between refusal.NotShortest = omega arith
 
 -- All numbers of a list of faults are among them.
 abbrev pub Numbered : List Fault → Type 0

@@ -10,7 +10,7 @@ use Rattle.route.specs.declared.answer.DiscMove.{DiscMove}
 use Rattle.route.proofs.Gatherings.Gathering.{gathering-home, gathering-apart}
 
 -- The first move of two lists is that of the first, or of the second where the first is empty.
-first-append : (ms : List DiscMove) (n : DiscMove) (ns : List DiscMove) (m : DiscMove) → getD (ms ++ (n ∷ ns)) 0 m ≡ getD ms 0 n
+pub first-append : (ms : List DiscMove) (n : DiscMove) (ns : List DiscMove) (m : DiscMove) → getD (ms ++ (n ∷ ns)) 0 m ≡ getD ms 0 n
 first-append [] n ns m = refl
 first-append (l ∷ ms) n ns m = refl
 

@@ -116,7 +116,7 @@ routes-two p q =
 
 module _ (p q : List ℕ) (same : length p ≡ length q) (hp : WellFormed p) (hq : WellFormed q) where
   -- Where there are two, the largest moving disc has plans of one length.
-  two-tie : routes (planOf p q) ≡ 2 → (k : ℕ) × (largest (peg p) (peg q) (length p) ≡ suc k) × (peg p k ≢ peg q k)
+  pub two-tie : routes (planOf p q) ≡ 2 → (k : ℕ) × (largest (peg p) (peg q) (length p) ≡ suc k) × (peg p k ≢ peg q k)
       × (wayOf (lengthsOf (peg p) (peg q) k) ≡ Tie (lengthsOf (peg p) (peg q) k))
   two-tie two =
       elim (largest-view (peg p) (peg q) (length p)) [

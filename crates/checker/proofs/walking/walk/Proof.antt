@@ -1,0 +1,224 @@
+-- `checker::walking::walk` meets its contract. The loop's invariant: i moves are made, and the position that they lead to is kept. The
+-- measure is how many pairs are left. Assumes nothing.
+use Prim.Native.Nat.{_-_, _≤_, _<_}
+use mathlib.Core.Logic.{⊎-elim}
+use mathlib.Core.Path.{_≡_, _∙_, sym}
+use native.Mathlib.Numerals.{add-one}
+use native.Mathlib.Omega.{arith}
+use borrow.Author.Needs.{needs}
+use borrow.Author.Tests.{not-true, not-false}
+use lib.ListN.{length, length-drop}
+use Rattle.board.specs.Move.{Legal}
+use Rattle.board.proofs.Formed.{formed-pegs, formed-drop}
+use Rattle.plan.proofs.Parts.{part-to-end}
+use Rattle.route.specs.Ours.{readMoves}
+use Rattle.checker.specs.Inner.Walk.{entryOf}
+use Rattle.checker.proofs.Pairs.{moves-length}
+use Rattle.checker.proofs.Small.{pairMove, pair-entry}
+use Rattle.checker.proofs.Walks.{Walking, here, walk-none, walking-begins, walking-may, walking-ends, walking-stops, walking-small, walking-larger, walking-carries, walking-letters}
+use Rattle.checker.proofs.walking.walk.Statement.{statement}
+use Rattle.checker.proofs.walking.walk.Tie as tie
+
+abbrev Inv-loop : tie.InvT-loop
+Inv-loop start goal letters small₀ top₀ beneath₀ count i₀ small top beneath i =
+    (i ≤ count) × Walking start (readMoves letters) i small top beneath
+
+abbrev μ-loop : tie.MeasureT-loop
+μ-loop start goal letters small₀ top₀ beneath₀ count i₀ small top beneath i = count - i
+
+-- There are no discs.
+returns : tie.Need-returns Inv-loop μ-loop
+returns c = walk-none _ _ _ (c .before .before .before .before .pre .same) (c .if1 .taken)
+
+sub-of : tie.Need-sub-of Inv-loop μ-loop
+sub-of c = search needs
+
+part-of-start : tie.Need-part-of-start Inv-loop μ-loop
+part-of-start c = search needs
+
+part-of-end : tie.Need-part-of-end Inv-loop μ-loop
+part-of-end c = search needs
+
+of-requires : tie.Need-of-requires Inv-loop μ-loop
+of-requires c κs =
+    let start = c .before .before .before .before .before in
+    rw part-to-end (omega (arith, length-drop 1 (start .args .start .now), start .pre .within), formed-drop 1 _ (start .pre .start-formed))
+
+shared-slice-read-wide : tie.Need-shared-slice-read-wide Inv-loop μ-loop
+shared-slice-read-wide c = search needs
+
+wide-requires : tie.Need-wide-requires Inv-loop μ-loop
+wide-requires c κs = search needs
+
+add-small : tie.Need-add-small Inv-loop μ-loop
+add-small c =
+    let start = c .before .before .before .before .before .before .before .before in
+    omega (arith, c .wide .ensures, formed-pegs (start .args .start .now) (start .pre .start-formed) 0)
+
+loop-holds : tie.Need-loop-holds Inv-loop μ-loop
+loop-holds c =
+    let wide = c .before .before in
+    (omega arith, walking-begins _ _ _ _ _ (wide .wide .ensures) (omega arith) (rw part-to-end at (wide .before .before .of .ensures)))
+
+mul-wide : tie.Need-mul-wide Inv-loop μ-loop
+mul-wide c = omega arith
+
+shared-slice-read-wide-2 : tie.Need-shared-slice-read-wide-2 Inv-loop μ-loop
+shared-slice-read-wide-2 c = omega arith
+
+wide-requires-2 : tie.Need-wide-requires-2 Inv-loop μ-loop
+wide-requires-2 c κs = search needs
+
+mul-wide-2 : tie.Need-mul-wide-2 Inv-loop μ-loop
+mul-wide-2 c = omega arith
+
+add-wide : tie.Need-add-wide Inv-loop μ-loop
+add-wide c = omega arith
+
+shared-slice-read-wide-3 : tie.Need-shared-slice-read-wide-3 Inv-loop μ-loop
+shared-slice-read-wide-3 c = omega arith
+
+wide-requires-3 : tie.Need-wide-requires-3 Inv-loop μ-loop
+wide-requires-3 c κs = search needs
+
+-- The state of the loop, and the arguments.
+abbrev state : tie.After-wide3 Inv-loop μ-loop → tie.At-loop Inv-loop μ-loop
+state c = c .before .before .before .before .before
+
+abbrev begun : tie.At-loop Inv-loop μ-loop → tie.Start Inv-loop μ-loop
+begun c = c .before .before .before .before .before .before .before .before .before .before .before
+
+-- The two bytes at hand are move i of the list.
+entry : (c : tie.After-wide3 Inv-loop μ-loop)
+    → pairMove (c .before .before .wide2 .result) (c .wide3 .result) ≡ entryOf (readMoves (begun (state c) .args .letters .now)) (state c .loop .i)
+entry c = pair-entry _ _ _ _ (omega arith) (c .before .before .wide2 .ensures) (c .wide3 .ensures)
+
+may-move-requires : tie.Need-may-move-requires Inv-loop μ-loop
+may-move-requires c κs = search needs
+
+-- They are a legal move.
+legal : (c : tie.Else2 Inv-loop μ-loop) →
+    let bytes = c .before .before .before in
+    let at = state bytes in
+    Legal (here (begun at .pre .start-formed) (at .loop .inv .1)) (pairMove (bytes .before .before .wide2 .result) (bytes .wide3 .result))
+legal c =
+    let at = state (c .before .before .before) in
+    walking-may (begun at .pre .start-formed) (at .loop .inv .1) _ _ .0 (sym (c .before .may-move .ensures) ∙ not-false _ (c .if2 .left))
+
+-- There is such a move in the list.
+more : (c : tie.After-wide3 Inv-loop μ-loop) → state c .loop .i < length (readMoves (begun (state c) .args .letters .now))
+more c = omega (arith, moves-length (begun (state c) .args .letters .now))
+
+-- Its bytes are letters.
+letters : (c : tie.Else2 Inv-loop μ-loop) →
+    let bytes = c .before .before .before in
+    let x = bytes .before .before .wide2 .result in
+    let y = bytes .wide3 .result in
+    (65 ≤ x) × (65 ≤ y) × (x - 65 < 3) × (y - 65 < 3)
+letters c =
+    let bytes = c .before .before .before in
+    let at = state bytes in
+    walking-letters (begun at .pre .start-formed) (at .loop .inv .1) _ _ (more bytes) (entry bytes) (legal c)
+
+sub-carry : tie.Need-sub-carry Inv-loop μ-loop
+sub-carry c = letters (c .before .before .before) .0
+
+sub-carry-2 : tie.Need-sub-carry-2 Inv-loop μ-loop
+sub-carry-2 c = letters (c .before .before .before) .1
+
+carry-requires : tie.Need-carry-requires Inv-loop μ-loop
+carry-requires c κs =
+    let may = c .before .before .before in
+    let bytes = may .before .before .before in
+    let at = state bytes in
+    (letters may .2, letters may .3, walking-carries (begun at .pre .start-formed) (at .loop .inv .1) _ _ (more bytes) (entry bytes) (legal may) (c .before .before .if3 .left) (begun at .pre .within))
+
+add-i : tie.Need-add-i Inv-loop μ-loop
+add-i c = omega arith
+
+loop-less : tie.Need-loop-less Inv-loop μ-loop
+loop-less c = omega arith
+
+-- One more move is made, by disc 1 or by a larger disc.
+loop-again : tie.Need-loop-again Inv-loop μ-loop
+loop-again c =
+    let bytes = c .before .before .before .before in
+    let at = state bytes in
+    let formed = begun at .pre .start-formed in
+    let w = at .loop .inv .1 in (
+      omega arith,
+      rw add-one
+          (⊎-elim
+          (λ k. rw (k .1, k .2, k .3) (walking-small formed w _ _ (more bytes) (entry bytes) (legal (c .before)) (k .0 .taken)))
+          (λ k. rw (k .4, k .5, k .6) (walking-larger formed w _ _ (more bytes) (entry bytes) (legal (c .before)) (k .0 .left) (k .3 .ensures)))
+          (c .if3 .came)),
+    )
+
+-- The last move has been made, or the next pair is no legal move.
+stopped : (c : tie.Left-loop Inv-loop μ-loop) →
+    let at = c .before in
+    let ms = readMoves (begun at .args .letters .now) in
+    at .loop .i < length ms → ¬ Legal (here (begun at .pre .start-formed) (at .loop .inv .1)) (entryOf ms (at .loop .i))
+stopped c more =
+    let at = c .before in
+    ⊎-elim
+    (λ out. absurd (omega (arith, moves-length (begun at .args .letters .now))))
+    (λ k.
+    let bytes : tie.After-wide3 Inv-loop μ-loop =
+    record {
+      before = record {
+        before = record {
+          before = record { before = record { before = at; loop-test = k .0 }; shared-slice-known5 = k .1 };
+          wide2 = k .2;
+        };
+        shared-slice-known6 = k .3;
+      };
+      wide3 = k .4;
+    } in
+    walking-stops (begun at .pre .start-formed) (at .loop .inv .1) _ _ (entry bytes) (sym (k .6 .ensures) ∙ not-true _ (k .7 .taken)))
+    (c .loop-test .came)
+
+stands-requires : tie.Need-stands-requires Inv-loop μ-loop
+stands-requires c κs =
+    let start = begun (c .before .before) in
+    (omega (arith, start .pre .same), omega (arith, start .pre .same, start .pre .within), start .pre .goal-formed)
+
+-- The walk ends here.
+returns-2 : tie.Need-returns-2 Inv-loop μ-loop
+returns-2 c =
+    let left = c .before .before in
+    let at = left .before in
+    let start = begun at in
+    walking-ends (start .pre .start-formed) (at .loop .inv .1) _ _ (omega (arith, moves-length (start .args .letters .now))) (stopped left) (start .pre .same) (c .stands .ensures)
+
+pub walk-spec : {M : Type 1} → statement M
+walk-spec =
+    tie.close
+    (tie.spec
+    Inv-loop
+    μ-loop
+    returns
+    sub-of
+    part-of-start
+    part-of-end
+    of-requires
+    shared-slice-read-wide
+    wide-requires
+    add-small
+    loop-holds
+    mul-wide
+    shared-slice-read-wide-2
+    wide-requires-2
+    mul-wide-2
+    add-wide
+    shared-slice-read-wide-3
+    wide-requires-3
+    may-move-requires
+    sub-carry
+    sub-carry-2
+    carry-requires
+    add-i
+    loop-less
+    loop-again
+    stands-requires
+    returns-2)
