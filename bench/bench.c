@@ -19,6 +19,7 @@ typedef uint64_t shortest_fn(const uint8_t *task, size_t len);
 typedef uint64_t run_fn(const uint8_t *task, size_t len, uint64_t route, uint64_t first, uint8_t *out, size_t out_len);
 typedef uint64_t batch_fn(uint64_t n, const uint8_t *tasks, size_t tasks_len, uint64_t *out, size_t out_len);
 typedef uint64_t plays_fn(const uint8_t *task, size_t len, const uint8_t *plays, size_t plays_len);
+typedef uint64_t check_fn(const uint8_t *task, size_t len, const uint8_t *letters, size_t letters_len);
 typedef uint64_t call_fn(size_t i);
 
 /* crates/pace: disc, from and to of a move, as the three bytes of a number; 1 for a place; the index of a position that is on route 0.
@@ -233,7 +234,7 @@ static void bench_indexes(void)
 }
 
 /* Million moves a second: a list of letter pairs. */
-static double time_check(plays_fn *f, const uint8_t *task, size_t n, const uint8_t *letters, size_t moves, uint64_t must)
+static double time_check(check_fn *f, const uint8_t *task, size_t n, const uint8_t *letters, size_t moves, uint64_t must)
 {
     double begun = seconds();
     uint64_t answer = f(task, 2 * n, letters, 2 * moves);

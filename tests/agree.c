@@ -1,6 +1,6 @@
 /* Compares the library's five calls with tests/hinz.c, answers and every byte of the buffers, on valid and damaged inputs. Inputs end
- * where a page begins that may not be touched. The moves, places and locates of hinz.c, which the bench measures by, are held to the
- * library's run and lengths. */
+ * where a page begins that may not be touched. The moves, places, locates and checks of hinz.c, which the bench measures by, are held to
+ * the library's run and lengths. */
 #include <inttypes.h>
 #include <stdio.h>
 #include <stdlib.h>
@@ -242,6 +242,36 @@ static void hold_steps(const uint8_t *task, size_t len)
     hold(hinz_place(task, len, route, index + 1, next, n) == 1 && !memcmp(place, next, n), "place");
 }
 
+/* What the library's run writes in full is accepted with its route's number. A letter too few or in lower case is 14; a move from a peg to
+ * itself is 15, at the end too; a move too few is 16, as is a move more and back. */
+static void hold_check(const uint8_t *task, size_t len)
+{
+    static uint8_t letters[2 * MOST_BYTES];
+    uint64_t length = tower_shortest(task, len), count = tower_routes(task, len);
+    if (TOWER_IS_REFUSED(length)) {
+        hold(hinz_check(task, len, letters, 0) == length, "refusal");
+        return;
+    }
+    if (length == 0 || length > MOST_BYTES / 2) {
+        hold(hinz_check(task, len, letters, 0) == (length ? TOWER_REFUSED(16) : 0), "empty list");
+        return;
+    }
+    uint64_t route = below(count);
+    size_t end = 2 * (size_t)tower_run(task, len, route, 0, letters, sizeof letters), place = below(end);
+    hold(hinz_check(task, len, letters, end) == route, "number");
+    hold(hinz_check(task, len, letters, end - 1) == TOWER_REFUSED(14), "odd length");
+    hold(hinz_check(task, len, letters, end - 2) == TOWER_REFUSED(16), "shorter list");
+    letters[place] += 'a' - 'A';
+    hold(hinz_check(task, len, letters, end) == TOWER_REFUSED(14), "lower case");
+    letters[place] -= 'a' - 'A';
+    letters[end] = letters[end + 1] = letters[end - 1];
+    hold(hinz_check(task, len, letters, end + 2) == TOWER_REFUSED(15), "move to itself");
+    letters[end + 1] = letters[end - 2];
+    letters[end + 2] = letters[end - 2];
+    letters[end + 3] = letters[end - 1];
+    hold(hinz_check(task, len, letters, end + 4) == TOWER_REFUSED(16), "longer list");
+}
+
 /* Every refusal of the five calls was met. */
 static void all_refused(void)
 {
@@ -270,6 +300,7 @@ int main(void)
         same("tower_gather", tower_gather(given, len, peg), hinz_gather(task, len, peg));
         compare_run(given, len, out_end);
         hold_steps(task, len);
+        hold_check(task, len);
         if (memcmp(task, made, len)) {
             printf("a task's bytes changed\n");
             return 1;

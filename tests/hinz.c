@@ -2,7 +2,7 @@
  * is a list of tower shifts, a single move being the shift of a tower of one disc. In a shift, move j is that of the disc whose number
  * is one more than the trailing zeros of j, and each disc goes round the pegs in one direction; `hinz_run_stacks` has no use of that but
  * for disc 1, and keeps the topmost disc of each peg and the disc beneath each disc (001, section 1). A single move or position: after
- * the plan one pass down the discs, by how many moves of a gathering are left. */
+ * the plan one pass down the discs, by how many moves of a gathering are left. The checker walks along the letters once. */
 #include <string.h>
 
 #include "hinz.h"
@@ -529,29 +529,21 @@ uint64_t hinz_locate(const uint8_t *task, size_t len, const uint8_t *position, s
     return shortest(&there);
 }
 
-/* A position for walking along letters: the letter of disc 1's peg, which may go to any other, and for each letter the larger discs of its
- * peg as a set, disc d + 1 as bit d, with bit n for none. */
-struct sets {
-    unsigned small;
-    uint64_t on['C' + 1];
-};
-
-static void fill_sets(struct sets *p, const uint8_t *position, size_t n)
+/* Makes the moves that are legal, writes the position after them, and returns how many they are. Disc 1 is known by the letter of its peg,
+ * and may go to any other; of the larger discs the topmost of each peg and the one beneath each are kept, disc 2 as 1 and so on, n for
+ * none. Sets of discs as bits took longer, and so did bytes in the arrays. */
+static size_t walk(uint8_t *position, size_t n, const uint8_t *letters, size_t count)
 {
-    for (unsigned letter = 'A'; letter <= 'C'; letter++)
-        p->on[letter] = (uint64_t)1 << n;
-    for (size_t d = 1; d < n; d++)
-        p->on['A' + position[d]] |= (uint64_t)1 << d;
-    p->small = n ? 'A' + position[0] : 256;
-}
-
-/* How many moves are legal, which are made. The smallest of a set is its lowest bit; nothing at or below it may be where it goes. */
-static size_t walk(struct sets *p, const uint8_t *letters, size_t count)
-{
-    unsigned small = p->small;
-    const uint8_t *l = letters, *end = letters + 2 * count;
-    for (; l < end; l += 2) {
-        unsigned from = l[0], to = l[1];
+    uint64_t top[3] = {n, n, n}, beneath[LIMIT], small;
+    size_t i = 0;
+    if (n == 0)
+        return 0;
+    for (size_t d = n; d-- > 1;) {
+        beneath[d] = top[position[d]];
+        top[position[d]] = d;
+    }
+    for (small = (uint64_t)'A' + position[0]; i < count; i++) {
+        uint64_t from = letters[2 * i], to = letters[2 * i + 1];
         if (to - 'A' > 2 || to == small)
             break;
         if (from == small) {
@@ -560,19 +552,18 @@ static size_t walk(struct sets *p, const uint8_t *letters, size_t count)
         }
         if (from - 'A' > 2)
             break;
-        uint64_t there = p->on[to], here = p->on[from], disc = here & (0 - here);
-        if (there & (disc | (disc - 1)))
+        uint64_t disc = top[from - 'A'], larger = top[to - 'A'];
+        if (larger <= disc)
             break;
-        p->on[from] = here ^ disc;
-        p->on[to] = there | disc;
+        top[from - 'A'] = beneath[disc];
+        beneath[disc] = larger;
+        top[to - 'A'] = disc;
     }
-    p->small = small;
-    return (size_t)(l - letters) / 2;
-}
-
-static int same_sets(const struct sets *p, const struct sets *q)
-{
-    return p->small == q->small && p->on['A'] == q->on['A'] && p->on['B'] == q->on['B'] && p->on['C'] == q->on['C'];
+    position[0] = (uint8_t)(small - 'A');
+    for (uint8_t peg = 0; peg < 3; peg++)
+        for (uint64_t d = top[peg]; d < n; d = beneath[d])
+            position[d] = peg;
+    return i;
 }
 
 static int only_letters(const uint8_t *letters, size_t len)
@@ -591,15 +582,14 @@ uint64_t hinz_check(const uint8_t *task, size_t len, const uint8_t *letters, siz
         return fault;
     if (letters_len % 2)
         return refused(14);
-    struct sets at, goal;
-    fill_sets(&at, task, len / 2);
-    size_t made = walk(&at, letters, letters_len / 2);
+    uint8_t position[LIMIT];
+    size_t n = len / 2;
+    if (n)
+        memcpy(position, task, n);
+    size_t made = walk(position, n, letters, letters_len / 2);
     if (made < letters_len / 2)
         return only_letters(letters + 2 * made, letters_len - 2 * made) ? refused(15) : refused(14);
-    if (made != shortest(&p))
-        return refused(16);
-    fill_sets(&goal, task + len / 2, len / 2);
-    if (!same_sets(&at, &goal))
+    if (made != shortest(&p) || (n && memcmp(position, task + n, n)))
         return refused(16);
     if (routes(&p) == 1)
         return 0;

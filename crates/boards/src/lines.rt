@@ -202,11 +202,13 @@ pub fn check_run(name: &[u8], task: &[u8], route: u64) {
     let mut letters = [0u8; 128];
     match run::run(task, route, 0, &mut letters) {
         Ran::Moves(count) => {
-            if count <= 64 {
-                let end = 2 * count;
-                checked(task, &letters[..end]);
+            if 64 < count {
+                text(b"long\n");
+                return;
             }
+            let end = 2 * count;
+            checked(task, &letters[..end]);
         }
-        Ran::Refused(why) => show::named(b"refused ", why.number()),
+        Ran::Refused(_) => text(b"not written\n"),
     }
 }

@@ -1,14 +1,14 @@
 -- What the checker answers, and when: the laws for whoever calls it.
 use Prim.Native.Nat.{ℕ, zero, suc, _*_, _/_, _%_, _<_}
-use mathlib.Core.Bool.{true, false}
-use mathlib.Core.List.{List, [], _∷_, map}
+use mathlib.Core.Bool.{true}
+use mathlib.Core.List.{List, map}
 use mathlib.Core.Logic.{_≢_, inl, inr}
 use mathlib.Core.Path.{_≡_, _∙_, refl, sym, ap}
 use native.Mathlib.Decide.{decLt}
 use native.Mathlib.Omega.{arith}
 use lib.ListN.{length, take}
 use lib.Seq.{take-all}
-use Rattle.board.specs.Fault.{First, Faultless, Obeys}
+use Rattle.board.specs.Fault.{First, Obeys}
 use Rattle.board.specs.Fewest.{same, fewest}
 use Rattle.board.specs.Move.{Leads}
 use Rattle.board.specs.Reply.{refused, answer, pass}
@@ -28,7 +28,7 @@ use Rattle.route.proofs.Calls.Letters.{leads-pegs, letters-read, letters-length
 use Rattle.route.proofs.Shortest.Distinct.{routes-count, routes-differ}
 use Rattle.route.proofs.Shortest.Routes.{route-leads, route-only}
 use Rattle.checker.specs.Answer.{lettersCheck, routeNumber, checkerAnswer}
-use Rattle.checker.specs.Faults.{Illegal, NotShortest, lettersFaults, checkerFaults}
+use Rattle.checker.specs.Faults.{NotShortest, lettersFaults, checkerFaults}
 use Rattle.checker.specs.Letters.{allLetters}
 use Rattle.checker.specs.Request7.{ShortestRoute}
 use Rattle.checker.proofs.Moves.{illegal-exactly, leads-clear, leads-stable, shortest-exactly}
@@ -91,7 +91,7 @@ module _ (s g l : List ℕ) where
       (k, there, read-back l (routeOf s g k) even all same)
 
 -- The letters of our routes are shortest routes.
-pub ours-shortest : (s g : List ℕ) → Ends s g → (r : ℕ) → r < routes (planOf s g) → ShortestRoute s g (letters (routeOf s g r))
+ours-shortest : (s g : List ℕ) → Ends s g → (r : ℕ) → r < routes (planOf s g) → ShortestRoute s g (letters (routeOf s g r))
 ours-shortest s g ends r there =
     let ds = routeOf s g r in
     let w = route-leads s g (ends .same) (ends .start-formed) (ends .goal-formed) r there in
@@ -114,7 +114,7 @@ module _ (t : List ℕ) (accepted : taskCheck t ≡ pass) where
   ends-of = task-ends (task-accepted t accepted)
 
   -- The letters of our route r have the number r.
-  pub route-number : (r : ℕ) → r < countOf t → routeNumber t (letters (taskRoute t r)) ≡ r
+  route-number : (r : ℕ) → r < countOf t → routeNumber t (letters (taskRoute t r)) ≡ r
   unfolding routeNumber
   route-number zero there = rw (same-refl (letters (taskRoute t 0)))
   route-number (suc zero) there = rw (same-apart (letters (taskRoute t 1)) (letters (taskRoute t 0)) differ)

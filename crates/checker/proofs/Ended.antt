@@ -29,11 +29,11 @@ module _ (s g l : List ℕ) (w : Walked) (walk : Walks s (readMoves l) g w) (eve
       let read = leads-letters (w .made) l {p = s} {q = walk .position} (omega (arith, walk .few, moves-length l)) (walk .leads) in
       letters-split (2 * w .made) l ∙ rw read
 
-  -- One of them is none.
+  -- One of them is no letter.
   pub ended-unpaired : allLetters (drop (2 * w .made) l) ≡ false → refused 14 ≡ lettersCheck s g l
   ended-unpaired some = letters-refuses s g l (inl (unpaired l (letters-left ∙ some), refl))
 
-  -- All are, and a move is left: it is not legal at its turn.
+  -- All are letters, and a move is left: it is not legal at its turn.
   pub ended-illegal : w .made < length l / 2 → allLetters (drop (2 * w .made) l) ≡ true → refused 15 ≡ lettersCheck s g l
   ended-illegal left all =
       let more : w .made < length (readMoves l) = omega (arith, moves-length l) in

@@ -86,6 +86,11 @@ routes-part p q same hp hq two =
     (firsts-apart (peg p) (formed-pegs p hp) k z (peg q k) (h .third) (h .second) (λ f. h .second-third (sym f))
     (carry k (peg p k) (peg q k)) (carry k (peg p k) z) (omega arith) (omega arith) (λ f. h .second-third (ap (λ (d : DiscMove). d .to) f)))
 
+-- A list of no moves is empty.
+pub no-moves : (ms : List DiscMove) → length ms ≡ 0 → ms ≡ []
+no-moves [] e = refl
+no-moves (m ∷ ms) e = absurd (omega arith)
+
 module _ (t : List ℕ) (accepted : taskCheck t ≡ pass) (two : countOf t ≡ 2) where
   -- Both routes of a tie are there.
   routed : (r : ℕ) → r < 2 → Routed t r
@@ -99,22 +104,18 @@ module _ (t : List ℕ) (accepted : taskCheck t ≡ pass) (two : countOf t ≡ 2
         | no n ↦
             let s = routed 0 (omega arith) .sound in
             absurd (routes-differ (start t) (goal t) (s .start-length ∙ sym (s .goal-length)) (s .start-formed) (s .goal-formed) two
-            (ap (map plain) (empty (taskRoute t 0) (route-length t 0 (routed 0 (omega arith)) ∙ omega arith) ∙ sym (empty (taskRoute t 1) (route-length t 1 (routed 1 (omega arith)) ∙ omega arith)))))
+            (ap (map plain) (no-moves (taskRoute t 0) (route-length t 0 (routed 0 (omega arith)) ∙ omega arith) ∙ sym (no-moves (taskRoute t 1) (route-length t 1 (routed 1 (omega arith)) ∙ omega arith)))))
       ]
-    where
-      empty : (ms : List DiscMove) → length ms ≡ 0 → ms ≡ []
-      empty [] e = refl
-      empty (m ∷ ms) e = absurd (omega arith)
 
   -- The letters of a route begin with those of its first move.
-  pub tie-letters : (r : ℕ) → r < 2
+  tie-letters : (r : ℕ) → r < 2
       → letters (taskRoute t r) ≡ letter (moveAt (taskRoute t r) 0 .from) ∷ letter (moveAt (taskRoute t r) 0 .to) ∷ letters (drop 1 (taskRoute t r))
   unfolding letters
   tie-letters r l =
       ap letters (drop-cons (taskRoute t r) 0 (record { disc = 0; from = 0; to = 0 }) (omega (arith, route-length t r (routed r l), tie-moves)))
 
   -- The first moves of the two differ without their discs too: a disc is the smallest of the peg that it leaves.
-  pub tie-apart : (r : ℕ) → r < 2 → r ≢ 0 → plain (moveAt (taskRoute t 0) 0) ≢ plain (moveAt (taskRoute t r) 0)
+  tie-apart : (r : ℕ) → r < 2 → r ≢ 0 → plain (moveAt (taskRoute t 0) 0) ≢ plain (moveAt (taskRoute t r) 0)
   unfolding after
   tie-apart r l n e =
       let one : r ≡ 1 = omega arith in
@@ -134,10 +135,10 @@ module _ (t : List ℕ) (accepted : taskCheck t ≡ pass) (two : countOf t ≡ 2
 
   module _ (l : List ℕ) (r : ℕ) (known : r < 2) (ours : l ≡ letters (taskRoute t r)) where
     -- The first two letters are those of the first move.
-    pub first-letter : getD l 0 0 ≡ letter (moveAt (taskRoute t r) 0 .from)
+    first-letter : getD l 0 0 ≡ letter (moveAt (taskRoute t r) 0 .from)
     first-letter = ap (λ (k : List ℕ). getD k 0 0) (ours ∙ tie-letters r known)
 
-    pub second-letter : getD l 1 0 ≡ letter (moveAt (taskRoute t r) 0 .to)
+    second-letter : getD l 1 0 ≡ letter (moveAt (taskRoute t r) 0 .to)
     second-letter = ap (λ (k : List ℕ). getD k 1 0) (ours ∙ tie-letters r known)
 
     -- There are two letters.

@@ -1,5 +1,5 @@
 -- Laws of lists of moves: the tests find what they look for.
-use Prim.Native.Nat.{ℕ, _<_}
+use Prim.Native.Nat.{ℕ}
 use mathlib.Core.Bool.{Bool, true, false, not, _&&_, _||_, and-eq-true-iff, true≢false, false≢true}
 use mathlib.Core.List.{List, [], _∷_, _++_}
 use mathlib.Core.Logic.{_↔_}
@@ -15,7 +15,7 @@ use Rattle.checker.specs.Faults.{Illegal, NotShortest}
 use Rattle.checker.specs.Moves.{legalMove, allLegal, leadsTo}
 
 -- A move passes the test exactly where it is legal.
-pub legal-exactly : (p : List ℕ) (m : Move) → (legalMove p m ≡ true) ↔ Legal p m
+legal-exactly : (p : List ℕ) (m : Move) → (legalMove p m ≡ true) ↔ Legal p m
 unfolding legalMove
 legal-exactly p m = (
   (λ e.
@@ -43,11 +43,11 @@ unfolding leadsTo
 leads-test (done {p = p}) = same-refl p
 leads-test (next {p = p} {m = m} l w) = rw (legal-exactly p m .1 l) (leads-test w)
 
-pub leads-exactly : (p : List ℕ) (ms : List Move) (q : List ℕ) → (leadsTo p ms q ≡ true) ↔ Leads p ms q
+leads-exactly : (p : List ℕ) (ms : List Move) (q : List ℕ) → (leadsTo p ms q ≡ true) ↔ Leads p ms q
 leads-exactly p ms q = (test-leads p ms q, leads-test)
 
 -- A list that leads has only moves that are legal at their turn.
-pub leads-legal : {p q : List ℕ} {ms : List Move} → Leads p ms q → allLegal p ms ≡ true
+leads-legal : {p q : List ℕ} {ms : List Move} → Leads p ms q → allLegal p ms ≡ true
 unfolding allLegal
 leads-legal done = refl
 leads-legal (next {p = p} {m = m} l w) = rw (legal-exactly p m .1 l) (leads-legal w)

@@ -6,7 +6,7 @@ use mathlib.Core.Logic.{_≢_, inl, inr, _↔_}
 use mathlib.Core.Path.{_≡_, _∙_, refl, sym, ap}
 use native.Mathlib.Decide.{ℕ-discrete}
 use native.Mathlib.Omega.{arith}
-use borrow.Author.Tests.{eqb-true, eq-eqb, ne-eqb, ltb-true, lt-ltb, le-ltb, not-true}
+use borrow.Author.Tests.{eqb-true, eq-eqb, ne-eqb, ltb-true, lt-ltb, not-true}
 use lib.Dec.{eqb, ltb}
 use lib.ListN.{length, getD, take, drop, take-append-drop, drop-of-length-le}
 use lib.Seq.{drop-cons}
@@ -101,7 +101,7 @@ letters-wrong (c ∷ l) e =
       | is-none r n ↦ (0, omega arith, n)
     ]
 
--- Where it passes none is.
+-- Where it passes each byte is a letter.
 letters-right : (l : List ℕ) → allLetters l ≡ true → (i : ℕ) → i < length l → NoLetter (getD l i 0) → ⊥
 unfolding allLetters
 letters-right [] e i h n = omega arith
@@ -183,6 +183,6 @@ paired-even l n = ((λ odd. n (inl odd)), at (allLetters l) refl)
     at true e = e
     at false e = absurd (n (inr (letters-wrong l e)))
 
--- Bytes that are not all letters are none.
+-- Bytes of which some is no letter are not letter pairs.
 pub unpaired : (l : List ℕ) → allLetters l ≡ false → Unpaired l
 unpaired l e = inr (letters-wrong l e)

@@ -1,14 +1,13 @@
 -- Request 7 holds of every task without faults and any bytes.
 use Prim.Native.Nat.{ℕ, _*_, _<_}
-use mathlib.Core.List.{List, [], _∷_}
-use mathlib.Core.Logic.{_≢_, inl, inr, _↔_}
+use mathlib.Core.List.{List, []}
+use mathlib.Core.Logic.{_≢_, inl, inr}
 use mathlib.Core.Path.{_≡_, _∙_, refl, sym, ap}
 use native.Mathlib.Omega.{arith}
 use lib.ListN.{length, take}
 use lib.Seq.{take-all, take-at}
 use Rattle.board.specs.Fault.{Faultless, taskFaults}
-use Rattle.board.specs.Fewest.{fewest}
-use Rattle.board.specs.Move.{Leads, done}
+use Rattle.board.specs.Move.{done}
 use Rattle.board.specs.Reply.{refused, answer, pass}
 use Rattle.board.specs.Task.{start, goal, taskCheck}
 use Rattle.board.proofs.Leads.{leads-one}
@@ -16,8 +15,7 @@ use Rattle.board.proofs.Replies.{answer-same}
 use Rattle.board.proofs.Tasks.{faultless-accepted}
 use Rattle.plan.proofs.Optimal.{fewest-shortest, fewest-is}
 use Rattle.route.specs.Answer.{lengthOf, countOf, taskRoute, letters, runAnswer, runWrites}
-use Rattle.route.specs.Ours.{ourRoute, readMoves}
-use Rattle.route.specs.declared.answer.DiscMove.{DiscMove}
+use Rattle.route.specs.Ours.{readMoves}
 use Rattle.route.proofs.Calls.Answers.{route-length, route-pegs, run-answered}
 use Rattle.route.proofs.Calls.Letters.{letters-read, letters-length}
 use Rattle.route.proofs.Calls.Opened.{accepted-routed}
@@ -27,6 +25,7 @@ use Rattle.checker.specs.Answer.{checkerAnswer}
 use Rattle.checker.specs.Faults.{Unpaired}
 use Rattle.checker.specs.Request7.{ShortestRoute, IsOurs, Request7}
 use Rattle.checker.proofs.Calls.{letters-refuses, shortest-passes, letters-passed, shortest-ours, ends-of, checker-accepts, checker-refuses, ours-accepted, checker-answered}
+use Rattle.checker.proofs.First.{no-moves}
 use Rattle.checker.proofs.Moves.{leads-clear}
 
 module _ (t : List ℕ) (accepted : taskCheck t ≡ pass) where
@@ -71,12 +70,8 @@ module _ (t : List ℕ) (accepted : taskCheck t ≡ pass) where
       let some : 0 < countOf t = elim (routes-count (start t) (goal t)) [ inl one ↦ omega arith | inr two ↦ omega arith ] in
       let least = fewest-is (start t) (goal t) (s .same) (s .start-formed) (s .goal-formed) .least [] (rw e done) in
       let none : lengthOf t ≡ 0 = sym (fewest-shortest (start t) (goal t) (s .same) (s .start-formed) (s .goal-formed)) ∙ omega arith in
-      let route : taskRoute t 0 ≡ [] = empty (taskRoute t 0) (route-length t 0 (accepted-routed t accepted 0 some) ∙ none) in
+      let route : taskRoute t 0 ≡ [] = no-moves (taskRoute t 0) (route-length t 0 (accepted-routed t accepted 0 some) ∙ none) in
       rw route at (ours-accepted t accepted 0 some)
-    where
-      empty : (ms : List DiscMove) → length ms ≡ 0 → ms ≡ []
-      empty [] e = refl
-      empty (m ∷ ms) e = absurd (omega arith)
 
   -- It does not reach any other goal.
   moving : start t ≢ goal t → checkerAnswer t [] ≡ refused 16

@@ -1,9 +1,9 @@
 -- Laws of a position by its smallest disc: which moves are legal, and what they leave.
 use Prim.Native.Nat.{ℕ, _+_, _*_, _-_, _/_, _<_}
-use mathlib.Core.Bool.{Bool, true, false, not, _&&_, _||_, and-eq-true-iff}
-use mathlib.Core.List.{List, [], _∷_}
+use mathlib.Core.Bool.{true, not, _&&_, and-eq-true-iff}
+use mathlib.Core.List.{List, _∷_}
 use mathlib.Core.Logic.{_≢_, _↔_}
-use mathlib.Core.Path.{_≡_, _∙_, refl, sym}
+use mathlib.Core.Path.{_≡_, _∙_, sym}
 use native.Mathlib.Decide.{ℕ-discrete}
 use native.Mathlib.Omega.{arith}
 use borrow.Author.Tests.{eqb-false, eq-eqb, ne-eqb, ltb-true, lt-ltb, not-true}
@@ -33,7 +33,7 @@ tops-legal p m from to less =
 
 module _ (b : ℕ) (p : List ℕ) (m : Move) where
   -- Disc 1, on peg b, may go to any other peg.
-  pub small-legal : m .from ≡ b → m .from < 3 → m .to < 3 → m .to ≢ b → Legal (b ∷ p) m
+  small-legal : m .from ≡ b → m .from < 3 → m .to < 3 → m .to ≢ b → Legal (b ∷ p) m
   small-legal e from to n =
       tops-legal (b ∷ p) m from to (omega (arith, top-here p (sym e), top-there p (λ f. n (sym f))))
 

@@ -1,6 +1,6 @@
 -- Laws of discs taken off one by one, the smallest first: they can be taken off the pegs of a position exactly where that is the position
 -- that the arrays hold.
-use Prim.Native.Nat.{ℕ, zero, suc, _+_, _≤_, _<_}
+use Prim.Native.Nat.{ℕ, suc, _+_, _≤_, _<_}
 use mathlib.Core.Bool.{true, false, _&&_}
 use mathlib.Core.List.{List, [], _∷_}
 use mathlib.Core.Logic.{_≢_}
@@ -14,8 +14,8 @@ use lib.Seq.{drop-cons, getD-set-same, getD-set-other}
 use Rattle.board.specs.Fewest.{same}
 use Rattle.board.specs.Move.{top}
 use Rattle.board.specs.Position.{peg, WellFormed}
-use Rattle.board.proofs.Formed.{formed-head, formed-tail, formed-drop}
-use Rattle.board.proofs.Search.{same-refl, same-apart}
+use Rattle.board.proofs.Formed.{formed-head, formed-tail}
+use Rattle.board.proofs.Search.{same-apart}
 use Rattle.board.proofs.Top.{top-here, top-there}
 use Rattle.run.specs.Inner.Pegs.{beneath, Holds}
 use Rattle.run.specs.declared.pegs.Pegs.{Pegs}

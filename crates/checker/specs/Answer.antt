@@ -28,7 +28,7 @@ lettersCheck s g l = do
   check (not (allLegal s (readMoves l))) 15
   check (not (leadsTo s (readMoves l) g) || ltb (fewest s g) (length (readMoves l))) 16
 
--- Which of our routes has these letters, of which there are at most two: 0 if route 0 does, else 1. That it is one of them is a theorem.
+-- Which of our routes, at most two, has these letters: 0 if route 0 has them, else 1. That one of them has them is a theorem.
 unfoldable pub routeNumber : List ℕ → List ℕ → ℕ
 routeNumber t l = cond (same l (letters (taskRoute t 0))) 0 1
 

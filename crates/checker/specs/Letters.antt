@@ -1,4 +1,4 @@
--- Letter pairs (02, CR 7): an even number of bytes, each A, B or C.
+-- Letters of pegs: A, B and C (document 01; 02, CR 7).
 use Prim.Native.Nat.{ℕ}
 use mathlib.Core.Bool.{Bool, true, _&&_}
 use mathlib.Core.List.{List, [], _∷_}

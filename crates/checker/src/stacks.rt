@@ -1,5 +1,5 @@
-// Discs as the topmost of each peg and the one beneath each, counted from 1, one more than there are for none. The numbers have 64 bits: what is
-// read is an index as it stands.
+// Discs as the topmost of each peg and the one beneath each, counted from 1, one more than there are for none. They are numbers of 64 bits, which
+// the compiler need not widen before it indexes by them.
 ghost use mathlib.Core.Path.{_≡_};
 ghost use Prim.Native.Nat.{_<_, _≤_};
 ghost use lib.ListN.{length};
@@ -35,7 +35,7 @@ impl Stacks {
 }
 
 // Takes the topmost disc of a peg to another.
-pub fn carry(top: &mut [usize; 3], beneath: &mut [usize; LIMIT], from: usize, to: usize)
+pub fn move_disc(top: &mut [usize; 3], beneath: &mut [usize; LIMIT], from: usize, to: usize)
     requires { ⌜ (from < 3) × (to < 3) × Carries (now top) from ⌝ }
     ensures { λ _. ⌜ arrays (now (top .exit)) (now (beneath .exit)) ≡ shifted (arrays (now (top .entry)) (now (beneath .entry))) from to ⌝ }
 {
@@ -48,11 +48,11 @@ pub fn carry(top: &mut [usize; 3], beneath: &mut [usize; LIMIT], from: usize, to
 }
 
 // Whether the stacks are those of a position: its discs are taken off one by one, the smallest first, each from its peg.
-pub fn take_off(stacks: [usize; 3], beneath: &[usize; LIMIT], position: &[u8]) -> bool
+pub fn take_off(tops: [usize; 3], beneath: &[usize; LIMIT], position: &[u8]) -> bool
     requires { ⌜ (length (now position) ≤ limit) × WellFormed (now position) ⌝ }
-    ensures { λ r. ⌜ r ≡ takenOff stacks (now (beneath .entry)) 0 (now (position .entry)) ⌝ }
+    ensures { λ r. ⌜ r ≡ takenOff tops (now (beneath .entry)) 0 (now (position .entry)) ⌝ }
 {
-    let mut top = stacks;
+    let mut top = tops;
     let mut d = 0;
     while d < position.len() {
         let peg = position[d] as usize;

@@ -9,8 +9,8 @@ use crate::walking::walk;
 use board::Refusal;
 use board::Verdict;
 
-// The first fault of letter pairs between two positions so many moves apart. Each letter is read once: those before the first pair that is
-// no legal move by the walk, and those from there on for being letters.
+// The first fault of letter pairs between two positions so many moves apart, in one pass: the walk reads the letters up to the first pair that is
+// no legal move, and from there on they are only asked for being letters.
 pub fn letters_verdict(start: &[u8], goal: &[u8], shortest: u64, letters: &[u8]) -> Verdict
     requires { ⌜ Ends (now start) (now goal) ⌝ }
     requires { ⌜ shortest ≡ fewest (now start) (now goal) ⌝ }

@@ -14,7 +14,7 @@ ghost use Rattle.run.specs.Inner.Pegs.{arrays};
 use crate::letters::is_letter;
 use crate::letters::wide;
 use crate::stacks::Stacks;
-use crate::stacks::carry;
+use crate::stacks::move_disc;
 use crate::stacks::take_off;
 use board::LIMIT;
 
@@ -80,7 +80,7 @@ pub fn walk(start: &[u8], goal: &[u8], letters: &[u8]) -> Walked
         if from == small {
             small = to;
         } else {
-            carry(&mut top, &mut beneath, from - 65, to - 65);
+            move_disc(&mut top, &mut beneath, from - 65, to - 65);
         }
         i += 1;
     }

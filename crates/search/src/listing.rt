@@ -1,5 +1,4 @@
 // The checker compared with the legal moves: on what Run writes, and on every list of legal moves.
-ghost use Prim.Native.Nat.{_≤_};
 use crate::position::NONE;
 use crate::position::after;
 use crate::tally::MANY;
@@ -8,75 +7,65 @@ use crate::tally::plus;
 use checker::Checked;
 use run::Ran;
 
-// The number that the checker answers to so many moves, or MANY where it refuses.
-fn number_of(task: &[u8], letters: &[u8; 128], moves: usize) -> u64 {
-    if 64 < moves {
-        return MANY;
+// Whether letters are those that Run writes of a route.
+fn is_route(task: &[u8], route: u64, list: &[u8]) -> bool {
+    let mut letters = [0u8; 128];
+    match run::run(task, route, 0, &mut letters) {
+        Ran::Refused(_) => false,
+        Ran::Moves(count) => {
+            if 64 < count {
+                return false;
+            }
+            let end = 2 * count;
+            board::same_position(&letters[..end], list)
+        }
     }
-    let end = 2 * moves;
-    match checker::check_route(task, &letters[..end]) {
+}
+
+// Whether the checker answers rightly to a list of legal moves: with the number of the route that Run writes so, or with 16.
+fn is_right(task: &[u8], list: &[u8], shortest: bool) -> bool {
+    match checker::check_route(task, list) {
+        Checked::Route(number) => {
+            if shortest {
+                return is_route(task, number, list);
+            }
+            false
+        }
+        Checked::Refused(why) => {
+            if shortest {
+                return false;
+            }
+            why.number() == 16
+        }
+    }
+}
+
+// The number that the checker answers, or MANY where it refuses.
+fn number_of(task: &[u8], list: &[u8]) -> u64 {
+    match checker::check_route(task, list) {
         Checked::Route(number) => number,
         Checked::Refused(_) => MANY,
-    }
-}
-
-// Whether the checker refuses so many moves with 16.
-fn is_refused(task: &[u8], letters: &[u8; 128], moves: usize) -> bool {
-    if 64 < moves {
-        return false;
-    }
-    let end = 2 * moves;
-    match checker::check_route(task, &letters[..end]) {
-        Checked::Route(_) => false,
-        Checked::Refused(why) => why.number() == 16,
-    }
-}
-
-// Writes a whole route by Run, and returns the number of moves.
-fn write_route(task: &[u8], route: u64, letters: &mut [u8; 128]) -> usize {
-    match run::run(task, route, 0, letters) {
-        Ran::Moves(count) => count,
-        Ran::Refused(_) => 0,
     }
 }
 
 // Whether the checker answers the number of a route to what Run writes of it.
 pub fn is_known(task: &[u8], route: u64) -> bool {
     let mut letters = [0u8; 128];
-    let moves = write_route(task, route, &mut letters);
-    number_of(task, &letters, moves) == route
-}
-
-// Whether the first so many letters are the same.
-fn are_same(one: &[u8; 128], other: &[u8; 128], end: usize) -> bool
-    requires { ⌜ end ≤ 128 ⌝ }
-{
-    let mut i = 0;
-    while i < end {
-        if one[i] != other[i] {
-            return false;
+    match run::run(task, route, 0, &mut letters) {
+        Ran::Refused(_) => false,
+        Ran::Moves(count) => {
+            if 64 < count {
+                return false;
+            }
+            let end = 2 * count;
+            number_of(task, &letters[..end]) == route
         }
-        i += 1;
     }
-    true
-}
-
-// Whether the checker answers the number of the route whose letters by Run these are.
-fn is_numbered(task: &[u8], letters: &[u8; 128], moves: usize) -> bool {
-    let number = number_of(task, letters, moves);
-    let mut route = [0u8; 128];
-    if write_route(task, number, &mut route) != moves {
-        return false;
-    }
-    if 64 < moves {
-        return false;
-    }
-    are_same(&route, letters, 2 * moves)
 }
 
 // Writes the letters of the move between two pegs as move i, and returns the position after it, or NONE where both are empty.
-fn step(at: usize, n: usize, one: usize, other: usize, i: usize, letters: &mut [u8; 128]) -> usize {
-    if 64 <= i {
+fn step(at: usize, n: usize, one: usize, other: usize, i: usize, letters: &mut [u8]) -> usize {
+    if letters.len() / 2 <= i {
         return NONE;
     }
     let there = after(at, n, one, other);
@@ -92,7 +81,7 @@ fn step(at: usize, n: usize, one: usize, other: usize, i: usize, letters: &mut [
 
 // Writes a list of so many legal moves, and returns the position after it, or NONE where there is no such list. Digit i of its number, in
 // base 3, says between which two pegs move i goes.
-fn write_list(list: usize, moves: usize, n: usize, start: usize, letters: &mut [u8; 128]) -> usize {
+fn write_list(list: usize, moves: usize, n: usize, start: usize, letters: &mut [u8]) -> usize {
     let mut rest = list;
     let mut at = start;
     let mut i = 0;
@@ -125,15 +114,16 @@ fn with_list(
     moves: usize,
     fewest: bool,
 ) -> Lists {
-    let mut letters = [0u8; 128];
-    let end = write_list(list, moves, n, start, &mut letters);
-    if NONE <= end {
+    if 64 < moves {
         return lists;
     }
-    let mut right = is_refused(task, &letters, moves);
-    if fewest & (end == goal) {
-        right = is_numbered(task, &letters, moves);
+    let mut letters = [0u8; 128];
+    let there = write_list(list, moves, n, start, &mut letters);
+    if NONE <= there {
+        return lists;
     }
+    let end = 2 * moves;
+    let right = is_right(task, &letters[..end], fewest & (there == goal));
     Lists {
         all: plus(lists.all, 1),
         right: plus(lists.right, one_if(right)),

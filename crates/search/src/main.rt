@@ -20,8 +20,7 @@
 //   moves    the moves of all of those pairs' shortest lists, by the search
 //   located  the triples of a start, a goal and a position q for which Locate answers as the distances say: where those by way of q add up
 //            to that of the goal, the distance of q as the index and the lowest route on which Place has q there, and else Off
-//   wrong    the comparisons that fail, which lengths, counts, routes, parts, wears, known, lists and located leave
-//            out
+//   wrong    the comparisons that fail, which the other columns but pairs, sum, ties and moves leave out
 mod listing;
 mod locating;
 mod pairs;

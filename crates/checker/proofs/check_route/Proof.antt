@@ -1,6 +1,6 @@
 -- `checker::check_route` meets its contract: Plan's answer gives the task faults and the fewest moves, the letters' verdict the other faults,
 -- and the first move the number. Assumes nothing.
-use mathlib.Core.Path.{_≡_, _∙_, refl, sym, ap}
+use mathlib.Core.Path.{_≡_, _∙_, sym, ap}
 use native.Mathlib.Omega.{arith}
 use borrow.Author.Needs.{needs}
 use lib.ListN.{length-take}

@@ -15,7 +15,7 @@ use Rattle.run.specs.declared.pegs.Pegs.{Pegs}
 use Rattle.checker.specs.Letters.{isLetter}
 use Rattle.checker.specs.declared.walking.Walked.{Walked}
 
--- The position p is kept as the letter of disc 1's peg and the arrays of the larger discs. The peg of no disc is 0.
+-- The position p is kept as the letter of disc 1's peg and the arrays of the larger discs.
 pub record Kept (small : ℕ) (a : Pegs) (p : List ℕ) : Type 0 where
   pub first : letter (peg p 0) ≡ small
   pub larger : Holds a (drop 1 p)

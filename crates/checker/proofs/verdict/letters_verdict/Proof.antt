@@ -2,6 +2,7 @@
 -- Assumes nothing.
 use mathlib.Core.Logic.{inl}
 use mathlib.Core.Path.{_∙_, refl, sym}
+use native.Mathlib.Omega.{arith}
 use borrow.Author.Needs.{needs}
 use Rattle.plan.proofs.Parts.{part-to-end}
 use Rattle.checker.proofs.Calls.{letters-refuses}
@@ -53,14 +54,14 @@ returns-4 : tie.Need-returns-4
 returns-4 c =
     let at = c .before .before in
     let start = begun at in
-    ended-longer _ _ _ _ (at .walk .ensures) (at .before .if1 .left) (c .before .if2 .left) (start .pre .0) (λ e. c .if4 .taken (start .pre .1 ∙ e))
+    ended-longer _ _ _ _ (at .walk .ensures) (at .before .if1 .left) (c .before .if2 .left) (start .pre .0) (λ e. omega (arith, c .if4 .taken, start .pre .1))
 
 -- It ends at the goal.
 returns-5 : tie.Need-returns-5
 returns-5 c =
     let at = c .before .before .before in
     ended-there _ _ _ _ (at .walk .ensures) (at .before .if1 .left) (c .before .before .if2 .left)
-    (sym (begun at .pre .1) ∙ c .before .if4 .left) (c .if5 .taken)
+    (omega (arith, c .before .if4 .left, begun at .pre .1)) (c .if5 .taken)
 
 -- It ends elsewhere.
 returns-6 : tie.Need-returns-6

@@ -1,10 +1,10 @@
 -- `checker::walking::may_move` meets its contract: at each return the tests passed on the way give the test. Assumes nothing.
-use Prim.Native.Nat.{_-_, _≤_, _<_}
-use mathlib.Core.Bool.{true, false}
+use Prim.Native.Nat.{_-_}
+use mathlib.Core.Bool.{true}
 use mathlib.Core.Path.{_≡_, _∙_, sym}
 use native.Mathlib.Omega.{arith}
 use borrow.Author.Needs.{needs}
-use borrow.Author.Tests.{eq-eqb, ne-eqb, ltb-true, not-true, not-false}
+use borrow.Author.Tests.{eq-eqb, ne-eqb, not-true, not-false}
 use Rattle.checker.specs.Inner.Walk.{mayMove}
 use Rattle.checker.specs.Letters.{isLetter}
 use Rattle.checker.proofs.Pairs.{letter-place}

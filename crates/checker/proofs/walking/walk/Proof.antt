@@ -120,14 +120,14 @@ letters c =
     let at = state bytes in
     walking-letters (begun at .pre .start-formed) (at .loop .inv .1) _ _ (more bytes) (entry bytes) (legal c)
 
-sub-carry : tie.Need-sub-carry Inv-loop μ-loop
-sub-carry c = letters (c .before .before .before) .0
+sub-move-disc : tie.Need-sub-move-disc Inv-loop μ-loop
+sub-move-disc c = letters (c .before .before .before) .0
 
-sub-carry-2 : tie.Need-sub-carry-2 Inv-loop μ-loop
-sub-carry-2 c = letters (c .before .before .before) .1
+sub-move-disc-2 : tie.Need-sub-move-disc-2 Inv-loop μ-loop
+sub-move-disc-2 c = letters (c .before .before .before) .1
 
-carry-requires : tie.Need-carry-requires Inv-loop μ-loop
-carry-requires c κs =
+move-disc-requires : tie.Need-move-disc-requires Inv-loop μ-loop
+move-disc-requires c κs =
     let may = c .before .before .before in
     let bytes = may .before .before .before in
     let at = state bytes in
@@ -214,9 +214,9 @@ walk-spec =
     shared-slice-read-wide-3
     wide-requires-3
     may-move-requires
-    sub-carry
-    sub-carry-2
-    carry-requires
+    sub-move-disc
+    sub-move-disc-2
+    move-disc-requires
     add-i
     loop-less
     loop-again

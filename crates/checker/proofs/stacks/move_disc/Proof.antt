@@ -1,8 +1,8 @@
--- `checker::stacks::carry` meets its contract: the topmost disc of a peg goes over. Assumes nothing.
+-- `checker::stacks::move_disc` meets its contract: the topmost disc of a peg goes over. Assumes nothing.
 use mathlib.Core.Path.{refl}
 use borrow.Author.Needs.{needs}
-use Rattle.checker.proofs.stacks.carry.Statement.{statement}
-use Rattle.checker.proofs.stacks.carry.Tie as tie
+use Rattle.checker.proofs.stacks.move_disc.Statement.{statement}
+use Rattle.checker.proofs.stacks.move_disc.Tie as tie
 
 mul-disc : tie.Need-mul-disc
 mul-disc c = search needs
@@ -47,8 +47,8 @@ element-write-top-2 c = search needs
 returns : tie.Need-returns
 returns c = refl
 
-pub carry-spec : {M : Type 1} → statement M
-carry-spec =
+pub move-disc-spec : {M : Type 1} → statement M
+move-disc-spec =
     tie.close
     (tie.spec
     mul-disc
