@@ -32,7 +32,7 @@ use Rattle.checker.specs.Faults.{NotShortest, lettersFaults, checkerFaul
 use Rattle.checker.specs.Letters.{allLetters}
 use Rattle.checker.specs.Request7.{ShortestRoute}
 use Rattle.checker.proofs.Moves.{illegal-exactly, leads-clear, leads-stable, shortest-exactly}
-use Rattle.checker.proofs.Pairs.{unpaired-exactly, paired, paired-even, moves-length, read-back, leads-letters}
+use Rattle.checker.proofs.Pairs.{unpaired-exactly, paired, paired-even, moves-length, read-back, letters-end, leads-letters}
 
 -- Demand 1: the checker is refused as its faults say and never else.
 pub letters-obeys : (s g l : List ℕ) → Obeys (lettersFaults s g l) (lettersCheck s g l)
@@ -100,8 +100,9 @@ ours-shortest s g ends r there =
     let half : length (letters ds) / 2 ≡ length ds = omega (arith, letters-length ds) in
     let size : length (readMoves (letters ds)) ≡ length ds = moves-length (letters ds) ∙ half in
     let whole : take (length ds) (readMoves (letters ds)) ≡ readMoves (letters ds) = take-all (length ds) (readMoves (letters ds)) (omega arith) in
-    let bytes : take (2 * length ds) (letters ds) ≡ letters ds = take-all (2 * length ds) (letters ds) (omega (arith, letters-length ds)) in
-    let all : allLetters (letters ds) ≡ true = rw bytes at (leads-letters (length ds) (letters ds) {p = s} {q = g} (omega arith) (rw whole leads)) in
+    let all : allLetters (letters ds) ≡ true =
+    leads-letters (length ds) (letters ds) {p = s} {q = g} (omega arith) (rw whole leads)
+    ∙ letters-end (letters ds) (2 * length ds) (omega (arith, letters-length ds)) in
     record {
       paired = paired (letters ds) (omega (arith, letters-length ds)) all;
       leads = leads;

@@ -20,14 +20,12 @@ use Rattle.checker.specs.Inner.Walk.{entryOf, Walks}
 use Rattle.checker.specs.Letters.{allLetters}
 use Rattle.checker.specs.declared.walking.Walked.{Walked}
 use Rattle.checker.proofs.Calls.{letters-refuses, shortest-passes, longer-refused}
-use Rattle.checker.proofs.Pairs.{letters-split, letters-end, paired, unpaired, moves-length, leads-letters}
+use Rattle.checker.proofs.Pairs.{letters-end, paired, unpaired, moves-length, leads-letters}
 
 module _ (s g l : List ℕ) (w : Walked) (walk : Walks s (readMoves l) g w) (even : length l % 2 ≢ 1) where
   -- The bytes from where it ended decide whether all are letters.
   letters-left : allLetters l ≡ allLetters (drop (2 * w .made) l)
-  letters-left =
-      let read = leads-letters (w .made) l {p = s} {q = walk .position} (omega (arith, walk .few, moves-length l)) (walk .leads) in
-      letters-split (2 * w .made) l ∙ rw read
+  letters-left = leads-letters (w .made) l {p = s} {q = walk .position} (omega (arith, walk .few, moves-length l)) (walk .leads)
 
   -- One of them is no letter.
   pub ended-unpaired : allLetters (drop (2 * w .made) l) ≡ false → refused 14 ≡ lettersCheck s g l

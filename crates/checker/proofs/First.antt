@@ -103,8 +103,9 @@ module _ (t : List ℕ) (accepted : taskCheck t ≡ pass) (two : countOf t ≡ 2
         | yes l ↦ l
         | no n ↦
             let s = routed 0 (omega arith) .sound in
+            let none : (r : ℕ) → r < 2 → taskRoute t r ≡ [] = λ r l. no-moves (taskRoute t r) (route-length t r (routed r l) ∙ omega arith) in
             absurd (routes-differ (start t) (goal t) (s .start-length ∙ sym (s .goal-length)) (s .start-formed) (s .goal-formed) two
-            (ap (map plain) (no-moves (taskRoute t 0) (route-length t 0 (routed 0 (omega arith)) ∙ omega arith) ∙ sym (no-moves (taskRoute t 1) (route-length t 1 (routed 1 (omega arith)) ∙ omega arith)))))
+            (ap (map plain) (none 0 (omega arith) ∙ sym (none 1 (omega arith)))))
       ]
 
   -- The letters of a route begin with those of its first move.

@@ -1,14 +1,14 @@
 -- Laws of letter pairs, and of the moves that they read as.
 use Prim.Native.Nat.{ℕ, zero, suc, _+_, _*_, _-_, _/_, _%_, _≤_, _<_}
-use mathlib.Core.Bool.{Bool, true, false, not, _&&_, _||_, and-assoc, and-eq-true-iff, true≢false, false≢true}
-use mathlib.Core.List.{List, [], _∷_, _++_, map}
+use mathlib.Core.Bool.{Bool, true, false, not, _&&_, _||_, and-eq-true-iff, true≢false, false≢true}
+use mathlib.Core.List.{List, [], _∷_, map}
 use mathlib.Core.Logic.{_≢_, inl, inr, _↔_}
 use mathlib.Core.Path.{_≡_, _∙_, refl, sym, ap}
 use native.Mathlib.Decide.{ℕ-discrete}
 use native.Mathlib.Omega.{arith}
 use borrow.Author.Tests.{eqb-true, eq-eqb, ne-eqb, ltb-true, lt-ltb, not-true}
 use lib.Dec.{eqb, ltb}
-use lib.ListN.{length, getD, take, drop, take-append-drop, drop-of-length-le}
+use lib.ListN.{length, getD, take, drop, drop-of-length-le}
 use lib.Seq.{drop-cons}
 use Rattle.board.specs.Move.{Move, Leads, next}
 use Rattle.board.proofs.Obeys.{either}
@@ -60,16 +60,6 @@ letter-is c b h = (
 none-read : (c : ℕ) → NoLetter c → 3 ≤ readPeg c
 none-read c (a, b, n) =
     elim (reads c) [ is-letter l e ↦ absurd (omega arith) | is-none e m ↦ omega arith ]
-
--- The test of two lists, one after the other.
-letters-append : (k l : List ℕ) → allLetters (k ++ l) ≡ (allLetters k && allLetters l)
-unfolding allLetters
-letters-append [] l = refl
-letters-append (c ∷ k) l = rw (letters-append k l) (sym (and-assoc (ltb (readPeg c) 3) (allLetters k) (allLetters l)))
-
--- The test of the first n bytes and of those after them.
-pub letters-split : (n : ℕ) (l : List ℕ) → allLetters l ≡ (allLetters (take n l) && allLetters (drop n l))
-letters-split n l = sym (ap allLetters (take-append-drop n l)) ∙ letters-append (take n l) (drop n l)
 
 -- The test from byte i on is the test of that byte and of those after it.
 letters-from : (l : List ℕ) (i : ℕ) → i < length l → allLetters (drop i l) ≡ (isLetter (getD l i 0) && allLetters (drop (suc i) l))
@@ -158,8 +148,8 @@ read-back (a ∷ b ∷ l) (d ∷ ds) even all e =
     let same = read-back l ds (λ odd. even (omega arith)) more tail in
     λ i. from i ∷ to i ∷ same i
 
--- The letters of moves that lead somewhere are letters of pegs.
-pub leads-letters : (k : ℕ) (l : List ℕ) {p q : List ℕ} → k ≤ length l / 2 → Leads p (take k (readMoves l)) q → allLetters (take (2 * k) l) ≡ true
+-- Moves that lead somewhere are read from letters: the bytes after them decide whether all are.
+pub leads-letters : (k : ℕ) (l : List ℕ) {p q : List ℕ} → k ≤ length l / 2 → Leads p (take k (readMoves l)) q → allLetters l ≡ allLetters (drop (2 * k) l)
 unfolding readMoves allLetters
 leads-letters zero l few w = refl
 leads-letters (suc k) [] few w = absurd (omega arith)

@@ -103,5 +103,9 @@ module _ {small : ℕ} {a : Pegs} (p q : List ℕ) (k : Kept small a p) where
       by p [] size some formed e h = absurd (omega arith)
       by [] (i ∷ q) size some formed e h = absurd (omega arith)
       by (j ∷ p) (i ∷ q) size some formed e h =
-          let rest = taken-same q p (a .top) (a .beneath) 0 (omega arith) (formed-tail i q formed) (record { tops = λ x l. omega (arith, h .tops x l); beneaths = λ x l. let at : 0 + x ≡ x = omega arith in rw at (omega (arith, h .beneaths x l)) }) in
-          rest ∙ sym (unfold same in rw (eq-eqb j i e))
+          let held : HoldsAfter (a .top) (a .beneath) p 0 =
+          record {
+            tops = λ x l. omega (arith, h .tops x l);
+            beneaths = λ x l. let at : 0 + x ≡ x = omega arith in rw at (omega (arith, h .beneaths x l));
+          } in
+          taken-same q p (a .top) (a .beneath) 0 (omega arith) (formed-tail i q formed) held ∙ sym (unfold same in rw (eq-eqb j i e))

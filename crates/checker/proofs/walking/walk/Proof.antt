@@ -131,7 +131,9 @@ move-disc-requires c κs =
     let may = c .before .before .before in
     let bytes = may .before .before .before in
     let at = state bytes in
-    (letters may .2, letters may .3, walking-carries (begun at .pre .start-formed) (at .loop .inv .1) _ _ (more bytes) (entry bytes) (legal may) (c .before .before .if3 .left) (begun at .pre .within))
+    let start = begun at in
+    let carries = walking-carries (start .pre .start-formed) (at .loop .inv .1) _ _ (more bytes) (entry bytes) (legal may) (c .before .before .if3 .left) in
+    (letters may .2, letters may .3, carries (start .pre .within))
 
 add-i : tie.Need-add-i Inv-loop μ-loop
 add-i c = omega arith
@@ -189,7 +191,8 @@ returns-2 c =
     let left = c .before .before in
     let at = left .before in
     let start = begun at in
-    walking-ends (start .pre .start-formed) (at .loop .inv .1) _ _ (omega (arith, moves-length (start .args .letters .now))) (stopped left) (start .pre .same) (c .stands .ensures)
+    let few = moves-length (start .args .letters .now) in
+    walking-ends (start .pre .start-formed) (at .loop .inv .1) _ _ (omega (arith, few)) (stopped left) (start .pre .same) (c .stands .ensures)
 
 pub walk-spec : {M : Type 1} → statement M
 walk-spec =

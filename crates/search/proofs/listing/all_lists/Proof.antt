@@ -1,4 +1,5 @@
--- `search::listing::all_lists` is safe and ends. The loop's invariant: `moves` is at most two above the distance. The measure is how many lengths are left. Assumes nothing.
+-- `search::listing::all_lists` is safe and ends. The loop's invariant: `moves` is at most two above the distance. The measure is how many
+-- lengths are left. Assumes nothing.
 use Prim.Native.Nat.{_+_, _-_, _≤_}
 use native.Mathlib.Omega.{arith}
 use borrow.Author.Needs.{needs}

@@ -1,4 +1,5 @@
--- `search::listing::write_list` is safe and ends. The loop's invariant: no more moves are written than are asked for, and the buffer keeps its length. The measure is how many are left. Assumes nothing.
+-- `search::listing::write_list` is safe and ends. The loop's invariant: no more moves are written than are asked for, and the buffer keeps
+-- its length. The measure is how many are left. Assumes nothing.
 use Prim.Native.Nat.{_-_, _≤_}
 use mathlib.Core.Path.{_≡_, refl}
 use native.Mathlib.Omega.{arith}
