@@ -16,7 +16,7 @@ use Rattle.plan.specs.Inner.Sound.{Ends}
 use Rattle.route.specs.Ours.{readMoves}
 use Rattle.checker.specs.Answer.{lettersCheck}
 use Rattle.checker.specs.Faults.{Illegal}
-use Rattle.checker.specs.Inner.Walk.{entryOf, Walks}
+use Rattle.checker.specs.Inner.Walk.{moveIn, Walks}
 use Rattle.checker.specs.Letters.{allLetters}
 use Rattle.checker.specs.declared.walking.Walked.{Walked}
 use Rattle.checker.proofs.Calls.{letters-refuses, shortest-passes, longer-refused}
@@ -38,7 +38,7 @@ module _ (s g l : List ℕ) (w : Walked) (walk : Walks s (readMoves l) g w) (eve
       let illegal : Illegal s (readMoves l) =
       record {
         before = take (w .made) (readMoves l);
-        move = entryOf (readMoves l) (w .made);
+        move = moveIn (readMoves l) (w .made);
         after = drop (suc (w .made)) (readMoves l);
         split = split-at (readMoves l) (w .made) (record { from = 0; to = 0 }) more;
         position = walk .position;

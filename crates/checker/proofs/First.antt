@@ -30,6 +30,7 @@ use Rattle.route.proofs.Calls.Opened.{Routed, accepted-routed}
 use Rattle.route.proofs.Gatherings.FirstMove.{first-append, gathering-first-home, gathering-first-away}
 use Rattle.route.proofs.Gatherings.Gathering.{gathering-none}
 use Rattle.route.proofs.Shortest.Distinct.{routes-count, two-tie, routes-differ}
+use Rattle.route.proofs.Shortest.Unique.{none-left}
 use Rattle.route.proofs.Shortest.View.{route-moving}
 use Rattle.checker.specs.Inner.Ours.{OneOfOurs}
 
@@ -86,11 +87,6 @@ routes-part p q same hp hq two =
     (firsts-apart (peg p) (formed-pegs p hp) k z (peg q k) (h .third) (h .second) (λ f. h .second-third (sym f))
     (carry k (peg p k) (peg q k)) (carry k (peg p k) z) (omega arith) (omega arith) (λ f. h .second-third (ap (λ (d : DiscMove). d .to) f)))
 
--- A list of no moves is empty.
-pub no-moves : (ms : List DiscMove) → length ms ≡ 0 → ms ≡ []
-no-moves [] e = refl
-no-moves (m ∷ ms) e = absurd (omega arith)
-
 module _ (t : List ℕ) (accepted : taskCheck t ≡ pass) (two : countOf t ≡ 2) where
   -- Both routes of a tie are there.
   routed : (r : ℕ) → r < 2 → Routed t r
@@ -103,7 +99,7 @@ module _ (t : List ℕ) (accepted : taskCheck t ≡ pass) (two : countOf t ≡ 2
         | yes l ↦ l
         | no n ↦
             let s = routed 0 (omega arith) .sound in
-            let none : (r : ℕ) → r < 2 → taskRoute t r ≡ [] = λ r l. no-moves (taskRoute t r) (route-length t r (routed r l) ∙ omega arith) in
+            let none : (r : ℕ) → r < 2 → taskRoute t r ≡ [] = λ r l. none-left (taskRoute t r) (route-length t r (routed r l) ∙ omega arith) in
             absurd (routes-differ (start t) (goal t) (s .start-length ∙ sym (s .goal-length)) (s .start-formed) (s .goal-formed) two
             (ap (map plain) (none 0 (omega arith) ∙ sym (none 1 (omega arith)))))
       ]
@@ -134,6 +130,11 @@ module _ (t : List ℕ) (accepted : taskCheck t ≡ pass) (two : countOf t ≡ 2
       let head = drop-cons (taskRoute t r) 0 (record { disc = 0; from = 0; to = 0 }) (omega (arith, route-length t r (routed r l), tie-moves)) in
       let pegs = rw head at (route-pegs t r (routed r l)) in (pegs .0, pegs .1)
 
+  -- Bytes with another first letter are not the letters of route 0.
+  pub other-first : (l : List ℕ) → getD l 0 0 ≢ letter (moveAt (taskRoute t 0) 0 .from) → same l (letters (taskRoute t 0)) ≡ false
+  other-first l n =
+      same-apart l (letters (taskRoute t 0)) (λ e. n (ap (λ (k : List ℕ). getD k 0 0) (e ∙ tie-letters 0 (omega arith))))
+
   module _ (l : List ℕ) (r : ℕ) (known : r < 2) (ours : l ≡ letters (taskRoute t r)) where
     -- The first two letters are those of the first move.
     first-letter : getD l 0 0 ≡ letter (moveAt (taskRoute t r) 0 .from)
@@ -145,11 +146,6 @@ module _ (t : List ℕ) (accepted : taskCheck t ≡ pass) (two : countOf t ≡ 2
     -- There are two letters.
     pub two-letters : 2 ≤ length l
     two-letters = rw (ours, tie-letters r known) (omega arith)
-
-    -- Another first letter is that of the other route.
-    pub other-first : getD l 0 0 ≢ letter (moveAt (taskRoute t 0) 0 .from) → same l (letters (taskRoute t 0)) ≡ false
-    other-first n =
-        same-apart l (letters (taskRoute t 0)) (λ e. n (ap (λ (k : List ℕ). getD k 0 0) (e ∙ tie-letters 0 (omega arith))))
 
     -- With the same first letter, the second tells.
     pub same-first : getD l 0 0 ≡ letter (moveAt (taskRoute t 0) 0 .from)

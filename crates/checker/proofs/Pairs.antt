@@ -17,7 +17,7 @@ use Rattle.route.specs.Ours.{readPeg, readMoves}
 use Rattle.route.specs.Route.{plain}
 use Rattle.route.specs.declared.answer.DiscMove.{DiscMove}
 use Rattle.checker.specs.Faults.{NoLetter, Unpaired}
-use Rattle.checker.specs.Inner.Walk.{entryOf}
+use Rattle.checker.specs.Inner.Walk.{moveIn}
 use Rattle.checker.specs.Letters.{isLetter, allLetters}
 
 -- A byte is the letter of the peg that it reads as, or no letter.
@@ -121,7 +121,7 @@ moves-length (a ∷ b ∷ l) = omega (arith, moves-length l)
 
 -- Move i is that of letters 2 i and 2 i + 1.
 pub moves-at : (l : List ℕ) (i : ℕ) → i < length l / 2
-    → entryOf (readMoves l) i ≡ record { from = readPeg (getD l (2 * i) 0); to = readPeg (getD l (2 * i + 1) 0) }
+    → moveIn (readMoves l) i ≡ record { from = readPeg (getD l (2 * i) 0); to = readPeg (getD l (2 * i + 1) 0) }
 unfolding readMoves
 moves-at [] i h = absurd (omega arith)
 moves-at (a ∷ []) i h = absurd (omega arith)

@@ -21,11 +21,11 @@ use Rattle.route.proofs.Calls.Letters.{letters-read, letters-length}
 use Rattle.route.proofs.Calls.Opened.{accepted-routed}
 use Rattle.route.proofs.Calls.Ours.{our-route}
 use Rattle.route.proofs.Shortest.Distinct.{routes-count}
+use Rattle.route.proofs.Shortest.Unique.{none-left}
 use Rattle.checker.specs.Answer.{checkerAnswer}
 use Rattle.checker.specs.Faults.{Unpaired}
 use Rattle.checker.specs.Request7.{ShortestRoute, IsOurs, Request7}
 use Rattle.checker.proofs.Calls.{letters-refuses, shortest-passes, letters-passed, shortest-ours, ends-of, checker-accepts, checker-refuses, ours-accepted, checker-answered}
-use Rattle.checker.proofs.First.{no-moves}
 use Rattle.checker.proofs.Moves.{leads-clear}
 
 module _ (t : List ℕ) (accepted : taskCheck t ≡ pass) where
@@ -70,7 +70,7 @@ module _ (t : List ℕ) (accepted : taskCheck t ≡ pass) where
       let some : 0 < countOf t = elim (routes-count (start t) (goal t)) [ inl one ↦ omega arith | inr two ↦ omega arith ] in
       let least = fewest-is (start t) (goal t) (s .same) (s .start-formed) (s .goal-formed) .least [] (rw e done) in
       let none : lengthOf t ≡ 0 = sym (fewest-shortest (start t) (goal t) (s .same) (s .start-formed) (s .goal-formed)) ∙ omega arith in
-      let route : taskRoute t 0 ≡ [] = no-moves (taskRoute t 0) (route-length t 0 (accepted-routed t accepted 0 some) ∙ none) in
+      let route : taskRoute t 0 ≡ [] = none-left (taskRoute t 0) (route-length t 0 (accepted-routed t accepted 0 some) ∙ none) in
       rw route at (ours-accepted t accepted 0 some)
 
   -- It does not reach any other goal.

@@ -1,5 +1,5 @@
 -- Laws of a position by its smallest disc: which moves are legal, and what they leave.
-use Prim.Native.Nat.{ℕ, _+_, _*_, _-_, _/_, _<_}
+use Prim.Native.Nat.{ℕ, _+_, _*_, _-_, _/_, _≤_, _<_}
 use mathlib.Core.Bool.{true, not, _&&_, and-eq-true-iff}
 use mathlib.Core.List.{List, _∷_}
 use mathlib.Core.Logic.{_≢_, _↔_}
@@ -16,7 +16,7 @@ use Rattle.route.specs.Ours.{readPeg, readMoves}
 use Rattle.run.specs.Inner.Pegs.{Holds}
 use Rattle.run.specs.Inner.Stepper.{discOn}
 use Rattle.run.specs.declared.pegs.Pegs.{Pegs}
-use Rattle.checker.specs.Inner.Walk.{mayMove, entryOf}
+use Rattle.checker.specs.Inner.Walk.{mayMove, moveIn}
 use Rattle.checker.specs.Letters.{isLetter}
 use Rattle.checker.proofs.Pairs.{letter-peg, letter-is, moves-at}
 
@@ -72,12 +72,19 @@ abbrev pub pairMove : ℕ → ℕ → Move
 pairMove x y = record { from = readPeg x; to = readPeg y }
 
 -- Bytes 2 i and 2 i + 1 of a list are its move i.
-pub pair-entry : (l : List ℕ) (i x y : ℕ) → i < length l / 2 → x ≡ getD l (2 * i) 0 → y ≡ getD l (2 * i + 1) 0 → pairMove x y ≡ entryOf (readMoves l) i
+pub pair-entry : (l : List ℕ) (i x y : ℕ) → i < length l / 2 → x ≡ getD l (2 * i) 0 → y ≡ getD l (2 * i + 1) 0 → pairMove x y ≡ moveIn (readMoves l) i
 pair-entry l i x y h first second = (λ k. pairMove (first k) (second k)) ∙ sym (moves-at l i h)
 
 -- The place of a letter's peg among the three is what is above A.
 pub place-peg : (x : ℕ) → readPeg x < 3 → x - 65 ≡ readPeg x
 place-peg x h = omega (arith, letter-peg x h)
+
+-- The bytes of a legal move are letters.
+pub legal-letters : (p : List ℕ) (x y : ℕ) → Legal p (pairMove x y) → (65 ≤ x) × (65 ≤ y) × (x - 65 < 3) × (y - 65 < 3)
+legal-letters p x y legal =
+    let from = legal .from-peg in
+    let to = legal .to-peg in
+    (omega (arith, letter-peg x from), omega (arith, letter-peg y to), rw (place-peg x from) from, rw (place-peg y to) to)
 
 module _ (a : Pegs) (b : ℕ) (p : List ℕ) (x y : ℕ) (peg : b < 3) (h : Holds a p) where
   -- Two bytes that pass the test are a legal move.

@@ -55,8 +55,8 @@ holds-less t b p d i hi h = record { tops = tops; beneaths = beneaths }
   where
     under : getD b d 0 ≡ suc (suc d + top p i)
     under =
-        let at : d + 0 ≡ d = omega arith in
-        let here = rw at at (h .beneaths 0 (omega arith)) in omega (arith, here)
+        let first : d + 0 ≡ d = omega arith in
+        let here = rw first at (h .beneaths 0 (omega arith)) in omega (arith, here)
 
     tops : (j : ℕ) → j < 3 → getD (set t i (getD b d 0)) j 0 ≡ suc (suc d + top p j)
     tops j hj =
@@ -67,8 +67,8 @@ holds-less t b p d i hi h = record { tops = tops; beneaths = beneaths }
 
     beneaths : (e : ℕ) → e < length p → getD b (suc d + e) 0 ≡ suc (suc d + beneath p e)
     beneaths e l =
-        let at : d + suc e ≡ suc d + e = omega arith in
-        let here = rw at at (h .beneaths (suc e) (omega arith)) in omega (arith, here)
+        let next : d + suc e ≡ suc d + e = omega arith in
+        let here = rw next at (h .beneaths (suc e) (omega arith)) in omega (arith, here)
 
 -- So the discs of q can be taken off exactly where q is p.
 taken-same : (q p t b : List ℕ) (d : ℕ) → length p ≡ length q → WellFormed q → HoldsAfter t b p d → takenOff t b d q ≡ same p q
@@ -106,6 +106,6 @@ module _ {small : ℕ} {a : Pegs} (p q : List ℕ) (k : Kept small a p) where
           let held : HoldsAfter (a .top) (a .beneath) p 0 =
           record {
             tops = λ x l. omega (arith, h .tops x l);
-            beneaths = λ x l. let at : 0 + x ≡ x = omega arith in rw at (omega (arith, h .beneaths x l));
+            beneaths = λ x l. let same-place : 0 + x ≡ x = omega arith in rw same-place (omega (arith, h .beneaths x l));
           } in
           taken-same q p (a .top) (a .beneath) 0 (omega arith) (formed-tail i q formed) held ∙ sym (unfold same in rw (eq-eqb j i e))

@@ -20,7 +20,7 @@ use Rattle.run.specs.Inner.Pegs.{Holds, arrays, shifted}
 use Rattle.run.specs.Inner.Stepper.{Carries}
 use Rattle.run.specs.declared.pegs.Pegs.{Pegs}
 use Rattle.run.proofs.Held.{holds-shifted}
-use Rattle.checker.specs.Inner.Walk.{Kept, mayMove, entryOf, Walks}
+use Rattle.checker.specs.Inner.Walk.{Kept, mayMove, moveIn, Walks}
 use Rattle.checker.proofs.Pairs.{letter-peg, letter-is}
 use Rattle.checker.proofs.Small.{small-moved, onto-small, larger-legal, larger-moved, pairMove, place-peg, may-exactly}
 
@@ -66,32 +66,17 @@ module _ {s : List ℕ} {ms : List Move} {i c : ℕ} {t u : List ℕ} (formed : 
   walking-may x y = rw (w .small) (may-exactly (arrays t u) (w .first) (w .rest) x y on-peg (w .holds))
 
   -- A walk that ends here, where it is found whether this is the goal.
-  pub walking-ends : (g : List ℕ) (there : Bool) → i ≤ length ms → (i < length ms → ¬ Legal here (entryOf ms i)) → length s ≡ length g
+  pub walking-ends : (g : List ℕ) (there : Bool) → i ≤ length ms → (i < length ms → ¬ Legal here (moveIn ms i)) → length s ≡ length g
       → ((p : List ℕ) → Kept c (arrays t u) p → length p ≡ length g → there ≡ same p g) → Walks s ms g (record { made = i; there = there })
   walking-ends g there few stop size compared =
       let kept : Kept c (arrays t u) here = record { first = sym (w .small); larger = w .holds } in
       record { few = few; position = here; leads = w .leads; stops = stop; arrives = compared here kept (leads-size (w .leads) ∙ size) }
 
   -- It ends where the next move fails the test.
-  pub walking-stops : (x y : ℕ) → pairMove x y ≡ entryOf ms i → mayMove c t x y ≡ false → ¬ Legal here (entryOf ms i)
+  pub walking-stops : (x y : ℕ) → pairMove x y ≡ moveIn ms i → mayMove c t x y ≡ false → ¬ Legal here (moveIn ms i)
   walking-stops x y e failed = rw (← e) (fails (mayMove c t x y) (walking-may x y) .0 failed)
 
-  module _ (x y : ℕ) (more : i < length ms) (entry : pairMove x y ≡ entryOf ms i) (legal : Legal here (pairMove x y)) where
-    -- A legal move leads on.
-    leads-on : Leads s (take (suc i) ms) (moved here (pairMove x y))
-    leads-on = rw (take-suc ms i (record { from = 0; to = 0 }) more, ← entry) (leads-append (w .leads) (next legal done))
-
-    -- Disc 1 moves.
-    pub walking-small : x ≡ c → Walking s ms (suc i) y t u
-    walking-small e =
-        record {
-          first = readPeg y;
-          small = letter-peg y (legal .to-peg);
-          rest = w .rest;
-          leads = rw (small-moved (w .first) (w .rest) (pairMove x y) (letter-is x (w .first) on-peg .0 (e ∙ w .small))) at leads-on;
-          holds = w .holds;
-        }
-
+  module _ (x y : ℕ) (legal : Legal here (pairMove x y)) where
     module _ (other : x ≢ c) where
       -- It is not disc 1 that moves.
       from-other : readPeg x ≢ w .first
@@ -101,27 +86,36 @@ module _ {s : List ℕ} {ms : List Move} {i c : ℕ} {t u : List ℕ} (formed : 
       larger-now : Legal (w .rest) (pairMove x y)
       larger-now = larger-legal (w .first) (w .rest) (pairMove x y) from-other (λ e. onto-small (w .first) (w .rest) (pairMove x y) e legal) .0 legal
 
-      -- A larger disc moves.
-      pub walking-larger : {t′ u′ : List ℕ} → arrays t′ u′ ≡ shifted (arrays t u) (x - 65) (y - 65) → Walking s ms (suc i) c t′ u′
-      walking-larger made =
-          let now : arrays _ _ ≡ shifted (arrays t u) (readPeg x) (readPeg y) = rw (place-peg x (legal .from-peg), place-peg y (legal .to-peg)) at made in
-          record {
-            first = w .first;
-            small = w .small;
-            rest = moved (w .rest) (pairMove x y);
-            leads = rw (larger-moved (w .first) (w .rest) (pairMove x y) from-other) at leads-on;
-            holds = subst (λ (a : Pegs). Holds a (moved (w .rest) (pairMove x y))) (sym now) (holds-shifted (arrays t u) (w .rest) (pairMove x y) (w .holds) larger-now);
-          }
-
       -- There is a larger disc to carry.
       pub walking-carries : length s ≤ limit → Carries t (x - 65)
       walking-carries within =
           let disc = w .holds .tops (readPeg x) (legal .from-peg) in
           rw (place-peg x (legal .from-peg)) (omega arith, omega (arith, leads-size (w .leads), larger-now .there))
 
-    -- Both bytes are letters.
-    pub walking-letters : (65 ≤ x) × (65 ≤ y) × (x - 65 < 3) × (y - 65 < 3)
-    walking-letters =
-        let from = legal .from-peg in
-        let to = legal .to-peg in
-        (omega (arith, letter-peg x from), omega (arith, letter-peg y to), rw (place-peg x from) from, rw (place-peg y to) to)
+    module _ (more : i < length ms) (entry : pairMove x y ≡ moveIn ms i) where
+      -- A legal move leads on.
+      leads-on : Leads s (take (suc i) ms) (moved here (pairMove x y))
+      leads-on = rw (take-suc ms i (record { from = 0; to = 0 }) more, ← entry) (leads-append (w .leads) (next legal done))
+
+      -- Disc 1 moves.
+      pub walking-small : x ≡ c → Walking s ms (suc i) y t u
+      walking-small e =
+          record {
+            first = readPeg y;
+            small = letter-peg y (legal .to-peg);
+            rest = w .rest;
+            leads = rw (small-moved (w .first) (w .rest) (pairMove x y) (letter-is x (w .first) on-peg .0 (e ∙ w .small))) at leads-on;
+            holds = w .holds;
+          }
+
+      -- A larger disc moves.
+      pub walking-larger : x ≢ c → {t′ u′ : List ℕ} → arrays t′ u′ ≡ shifted (arrays t u) (x - 65) (y - 65) → Walking s ms (suc i) c t′ u′
+      walking-larger other made =
+          let now : arrays _ _ ≡ shifted (arrays t u) (readPeg x) (readPeg y) = rw (place-peg x (legal .from-peg), place-peg y (legal .to-peg)) at made in
+          record {
+            first = w .first;
+            small = w .small;
+            rest = moved (w .rest) (pairMove x y);
+            leads = rw (larger-moved (w .first) (w .rest) (pairMove x y) (from-other other)) at leads-on;
+            holds = subst (λ (a : Pegs). Holds a (moved (w .rest) (pairMove x y))) (sym now) (holds-shifted (arrays t u) (w .rest) (pairMove x y) (w .holds) (larger-now other));
+          }

@@ -27,8 +27,8 @@ mayMove c t x y =
     (isLetter y && not (eqb y c)) && (eqb x c || (isLetter x && ltb (discOn t (x - 65)) (discOn t (y - 65))))
 
 -- The move at an index of a list.
-abbrev pub entryOf : List Move → ℕ → Move
-entryOf ms i = getD ms i (record { from = 0; to = 0 })
+abbrev pub moveIn : List Move → ℕ → Move
+moveIn ms i = getD ms i (record { from = 0; to = 0 })
 
 -- A walk from s along ms, with the goal g: the moves made lead to a position, where the next one, if there is one, is not legal; and whether
 -- that is the goal.
@@ -36,5 +36,5 @@ pub record Walks (s : List ℕ) (ms : List Move) (g : List ℕ) (w : Walked) : T
   pub few : w .made ≤ length ms
   pub position : List ℕ
   pub leads : Leads s (take (w .made) ms) position
-  pub stops : w .made < length ms → ¬ Legal position (entryOf ms (w .made))
+  pub stops : w .made < length ms → ¬ Legal position (moveIn ms (w .made))
   pub arrives : w .there ≡ same position g

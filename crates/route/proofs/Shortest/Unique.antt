@@ -186,7 +186,7 @@ ShortestBy u t zero ms = ms ≡ []
 ShortestBy u t (suc k) ms = Shortest u t k ms
 
 -- A list of no moves is empty.
-none-left : (ms : List DiscMove) → length ms ≡ 0 → ms ≡ []
+pub none-left : (ms : List DiscMove) → length ms ≡ 0 → ms ≡ []
 none-left [] e = refl
 none-left (m ∷ ms) e = absurd (omega arith)
 

@@ -78,8 +78,7 @@ returns-2 c =
     let m = c .before .before .before .before in
     let start = m .before .before .before .before .before .before in
     let ours = start .pre .1 in
-    sym (other-first (start .args .task .now) (ours .accepted) (two (m .before .before .before)) _ (ours .route) (known (m .before .before .before)) (ours .same)
-    (rw (answered m) (c .if2 .taken)))
+    sym (other-first (start .args .task .now) (ours .accepted) (two (m .before .before .before)) _ (rw (answered m) (c .if2 .taken)))
 
 shared-slice-read-result : tie.Need-shared-slice-read-result
 shared-slice-read-result c = omega (arith, room (c .before .before .before .before .before .before .before .before))

@@ -12,10 +12,10 @@ use Rattle.board.specs.Move.{Legal}
 use Rattle.board.proofs.Formed.{formed-pegs, formed-drop}
 use Rattle.plan.proofs.Parts.{part-to-end}
 use Rattle.route.specs.Ours.{readMoves}
-use Rattle.checker.specs.Inner.Walk.{entryOf}
+use Rattle.checker.specs.Inner.Walk.{moveIn}
 use Rattle.checker.proofs.Pairs.{moves-length}
-use Rattle.checker.proofs.Small.{pairMove, pair-entry}
-use Rattle.checker.proofs.Walks.{Walking, here, walk-none, walking-begins, walking-may, walking-ends, walking-stops, walking-small, walking-larger, walking-carries, walking-letters}
+use Rattle.checker.proofs.Small.{pairMove, pair-entry, legal-letters}
+use Rattle.checker.proofs.Walks.{Walking, here, walk-none, walking-begins, walking-may, walking-ends, walking-stops, walking-small, walking-larger, walking-carries}
 use Rattle.checker.proofs.walking.walk.Statement.{statement}
 use Rattle.checker.proofs.walking.walk.Tie as tie
 
@@ -90,7 +90,7 @@ begun c = c .before .before .before .before .before .before .before .before .bef
 
 -- The two bytes at hand are move i of the list.
 entry : (c : tie.After-wide3 Inv-loop μ-loop)
-    → pairMove (c .before .before .wide2 .result) (c .wide3 .result) ≡ entryOf (readMoves (begun (state c) .args .letters .now)) (state c .loop .i)
+    → pairMove (c .before .before .wide2 .result) (c .wide3 .result) ≡ moveIn (readMoves (begun (state c) .args .letters .now)) (state c .loop .i)
 entry c = pair-entry _ _ _ _ (omega arith) (c .before .before .wide2 .ensures) (c .wide3 .ensures)
 
 may-move-requires : tie.Need-may-move-requires Inv-loop μ-loop
@@ -115,10 +115,7 @@ letters : (c : tie.Else2 Inv-loop μ-loop) →
     let x = bytes .before .before .wide2 .result in
     let y = bytes .wide3 .result in
     (65 ≤ x) × (65 ≤ y) × (x - 65 < 3) × (y - 65 < 3)
-letters c =
-    let bytes = c .before .before .before in
-    let at = state bytes in
-    walking-letters (begun at .pre .start-formed) (at .loop .inv .1) _ _ (more bytes) (entry bytes) (legal c)
+letters c = legal-letters _ _ _ (legal c)
 
 sub-move-disc : tie.Need-sub-move-disc Inv-loop μ-loop
 sub-move-disc c = letters (c .before .before .before) .0
@@ -132,8 +129,8 @@ move-disc-requires c κs =
     let bytes = may .before .before .before in
     let at = state bytes in
     let start = begun at in
-    let carries = walking-carries (start .pre .start-formed) (at .loop .inv .1) _ _ (more bytes) (entry bytes) (legal may) (c .before .before .if3 .left) in
-    (letters may .2, letters may .3, carries (start .pre .within))
+    let carries = walking-carries (start .pre .start-formed) (at .loop .inv .1) _ _ (legal may) (c .before .before .if3 .left) (start .pre .within) in
+    (letters may .2, letters may .3, carries)
 
 add-i : tie.Need-add-i Inv-loop μ-loop
 add-i c = omega arith
@@ -151,8 +148,8 @@ loop-again c =
       omega arith,
       rw add-one
           (⊎-elim
-          (λ k. rw (k .1, k .2, k .3) (walking-small formed w _ _ (more bytes) (entry bytes) (legal (c .before)) (k .0 .taken)))
-          (λ k. rw (k .4, k .5, k .6) (walking-larger formed w _ _ (more bytes) (entry bytes) (legal (c .before)) (k .0 .left) (k .3 .ensures)))
+          (λ k. rw (k .1, k .2, k .3) (walking-small formed w _ _ (legal (c .before)) (more bytes) (entry bytes) (k .0 .taken)))
+          (λ k. rw (k .4, k .5, k .6) (walking-larger formed w _ _ (legal (c .before)) (more bytes) (entry bytes) (k .0 .left) (k .3 .ensures)))
           (c .if3 .came)),
     )
 
@@ -160,7 +157,7 @@ loop-again c =
 stopped : (c : tie.Left-loop Inv-loop μ-loop) →
     let at = c .before in
     let ms = readMoves (begun at .args .letters .now) in
-    at .loop .i < length ms → ¬ Legal (here (begun at .pre .start-formed) (at .loop .inv .1)) (entryOf ms (at .loop .i))
+    at .loop .i < length ms → ¬ Legal (here (begun at .pre .start-formed) (at .loop .inv .1)) (moveIn ms (at .loop .i))
 stopped c more =
     let at = c .before in
     ⊎-elim
