@@ -1,5 +1,4 @@
 -- `checker::walking::may_move` meets its contract: at each return the tests passed on the way give the test. Assumes nothing.
-use Prim.Native.Nat.{_-_}
 use mathlib.Core.Bool.{true}
 use mathlib.Core.Path.{_≡_, _∙_, sym}
 use native.Mathlib.Omega.{arith}
