@@ -531,7 +531,8 @@ uint64_t hinz_locate(const uint8_t *task, size_t len, const uint8_t *position, s
 
 /* Makes the moves that are legal, writes the position after them, and returns how many they are. Disc 1 is known by the letter of its peg,
  * and may go to any other; of the larger discs the topmost of each peg and the one beneath each are kept, disc 2 as 1 and so on, n for
- * none. Sets of discs as bits took longer, and so did bytes in the arrays. */
+ * none. The move after one of disc 1 is taken with it: compiled by gcc that is a little faster than one move at a time. Sets of discs as
+ * bits took longer, and so did bytes in the arrays. */
 static size_t walk(uint8_t *position, size_t n, const uint8_t *letters, size_t count)
 {
     uint64_t top[3] = {n, n, n}, beneath[LIMIT], small;
@@ -542,15 +543,21 @@ static size_t walk(uint8_t *position, size_t n, const uint8_t *letters, size_t c
         beneath[d] = top[position[d]];
         top[position[d]] = d;
     }
-    for (small = (uint64_t)'A' + position[0]; i < count; i++) {
+    small = (uint64_t)'A' + position[0];
+    while (i < count) {
         uint64_t from = letters[2 * i], to = letters[2 * i + 1];
-        if (to - 'A' > 2 || to == small)
-            break;
         if (from == small) {
+            if (to - 'A' > 2 || to == small)
+                break;
             small = to;
-            continue;
+            if (++i == count)
+                break;
+            from = letters[2 * i];
+            to = letters[2 * i + 1];
+            if (from == small)
+                continue;
         }
-        if (from - 'A' > 2)
+        if (to - 'A' > 2 || to == small || from - 'A' > 2)
             break;
         uint64_t disc = top[from - 'A'], larger = top[to - 'A'];
         if (larger <= disc)
@@ -558,6 +565,7 @@ static size_t walk(uint8_t *position, size_t n, const uint8_t *letters, size_t c
         top[from - 'A'] = beneath[disc];
         beneath[disc] = larger;
         top[to - 'A'] = disc;
+        i++;
     }
     position[0] = (uint8_t)(small - 'A');
     for (uint8_t peg = 0; peg < 3; peg++)
