@@ -529,35 +529,38 @@ uint64_t hinz_locate(const uint8_t *task, size_t len, const uint8_t *position, s
     return shortest(&there);
 }
 
-/* Makes the moves that are legal, writes the position after them, and returns how many they are. Disc 1 is known by the letter of its peg,
- * and may go to any other; of the larger discs the topmost of each peg and the one beneath each are kept, disc 2 as 1 and so on, n for
- * none. The move after one of disc 1 is taken with it: compiled by gcc that is a little faster than one move at a time. Sets of discs as
- * bits took longer, and so did bytes in the arrays. */
+/* Makes the moves that are legal, writes the position after them, and returns how many they are. Discs 1 and 2 are known by the letters of
+ * their pegs (NONE where there is no disc 2), and each may go to any peg without a smaller disc; of the larger discs the topmost of each peg
+ * and the one beneath each are kept, disc 3 as 2 and so on, n for none. Slower were: disc 1 alone apart, one move at a time or two; with
+ * that, sets of discs as bits, and bytes in the arrays. */
 static size_t walk(uint8_t *position, size_t n, const uint8_t *letters, size_t count)
 {
-    uint64_t top[3] = {n, n, n}, beneath[LIMIT], small;
+    enum { NONE = 256 };
+    uint64_t top[3] = {n, n, n}, beneath[LIMIT], small, second = NONE;
     size_t i = 0;
     if (n == 0)
         return 0;
-    for (size_t d = n; d-- > 1;) {
+    for (size_t d = n; d-- > 2;) {
         beneath[d] = top[position[d]];
         top[position[d]] = d;
     }
-    small = (uint64_t)'A' + position[0];
-    while (i < count) {
+    if (n > 1)
+        second = (uint64_t)'A' + position[1];
+    for (small = (uint64_t)'A' + position[0]; i < count; i++) {
         uint64_t from = letters[2 * i], to = letters[2 * i + 1];
+        if (to - 'A' > 2 || to == small)
+            break;
         if (from == small) {
-            if (to - 'A' > 2 || to == small)
-                break;
             small = to;
-            if (++i == count)
-                break;
-            from = letters[2 * i];
-            to = letters[2 * i + 1];
-            if (from == small)
-                continue;
+            continue;
         }
-        if (to - 'A' > 2 || to == small || from - 'A' > 2)
+        if (to == second)
+            break;
+        if (from == second) {
+            second = to;
+            continue;
+        }
+        if (from - 'A' > 2)
             break;
         uint64_t disc = top[from - 'A'], larger = top[to - 'A'];
         if (larger <= disc)
@@ -565,9 +568,10 @@ static size_t walk(uint8_t *position, size_t n, const uint8_t *letters, size_t c
         top[from - 'A'] = beneath[disc];
         beneath[disc] = larger;
         top[to - 'A'] = disc;
-        i++;
     }
     position[0] = (uint8_t)(small - 'A');
+    if (n > 1)
+        position[1] = (uint8_t)(second - 'A');
     for (uint8_t peg = 0; peg < 3; peg++)
         for (uint64_t d = top[peg]; d < n; d = beneath[d])
             position[d] = peg;

@@ -17,7 +17,7 @@ use Rattle.route.specs.Ours.{readPeg, readMoves}
 use Rattle.route.specs.Route.{plain}
 use Rattle.route.specs.declared.answer.DiscMove.{DiscMove}
 use Rattle.checker.specs.Faults.{NoLetter, Unpaired}
-use Rattle.checker.specs.Inner.Walk.{moveIn}
+use Rattle.checker.specs.Inner.Walk.{letterOf, moveIn}
 use Rattle.checker.specs.Letters.{isLetter, allLetters}
 
 -- A byte is the letter of the peg that it reads as, or no letter.
@@ -60,6 +60,20 @@ letter-is c b h = (
 none-read : (c : ℕ) → NoLetter c → 3 ≤ readPeg c
 none-read c (a, b, n) =
     elim (reads c) [ is-letter l e ↦ absurd (omega arith) | is-none e m ↦ omega arith ]
+
+-- Without a second disc there is no letter of its peg.
+pub letter-none : (p : List ℕ) → length p < 2 → letterOf (drop 1 p) ≡ 256
+unfolding letterOf
+letter-none [] few = refl
+letter-none (b ∷ []) few = refl
+letter-none (b ∷ c ∷ p) few = absurd (omega arith)
+
+-- With one there is.
+pub letter-second : (p : List ℕ) → 2 ≤ length p → letterOf (drop 1 p) ≡ letter (getD p 1 0)
+unfolding letterOf
+letter-second [] some = absurd (omega arith)
+letter-second (b ∷ []) some = absurd (omega arith)
+letter-second (b ∷ c ∷ p) some = refl
 
 -- The test from byte i on is the test of that byte and of those after it.
 letters-from : (l : List ℕ) (i : ℕ) → i < length l → allLetters (drop i l) ≡ (isLetter (getD l i 0) && allLetters (drop (suc i) l))

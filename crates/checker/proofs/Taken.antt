@@ -1,6 +1,6 @@
 -- Laws of discs taken off one by one, the smallest first: they can be taken off the pegs of a position exactly where that is the position
 -- that the arrays hold.
-use Prim.Native.Nat.{ℕ, suc, _+_, _≤_, _<_}
+use Prim.Native.Nat.{ℕ, suc, _+_, _≤_, _<_, min}
 use mathlib.Core.Bool.{true, false, _&&_}
 use mathlib.Core.List.{List, [], _∷_}
 use mathlib.Core.Logic.{_≢_}
@@ -9,19 +9,19 @@ use native.Mathlib.Decide.{ℕ-discrete}
 use native.Mathlib.Omega.{arith}
 use borrow.Author.Tests.{eq-eqb, ne-eqb}
 use lib.Dec.{eqb}
-use lib.ListN.{length, getD, drop, set, drop-of-length-le}
+use lib.ListN.{length, getD, drop, set, length-drop, drop-of-length-le}
 use lib.Seq.{drop-cons, getD-set-same, getD-set-other}
 use Rattle.board.specs.Fewest.{same}
 use Rattle.board.specs.Move.{top}
 use Rattle.board.specs.Position.{peg, WellFormed}
-use Rattle.board.proofs.Formed.{formed-head, formed-tail}
+use Rattle.board.proofs.Formed.{formed-head, formed-tail, formed-drop}
 use Rattle.board.proofs.Search.{same-apart}
 use Rattle.board.proofs.Top.{top-here, top-there}
 use Rattle.run.specs.Inner.Pegs.{beneath, Holds}
 use Rattle.run.specs.declared.pegs.Pegs.{Pegs}
 use Rattle.run.proofs.Held.{inside}
 use Rattle.checker.specs.Inner.Stacks.{takenOff}
-use Rattle.checker.specs.Inner.Walk.{Kept}
+use Rattle.checker.specs.Inner.Walk.{letterOf, Kept}
 
 -- The test from disc d + 1 on is that of its peg, and of the discs after it.
 taken-from : (t b q : List ℕ) (d : ℕ) → d < length q
@@ -88,24 +88,45 @@ taken-same (i ∷ q) (j ∷ p) t b d size formed h =
           rw (ne-eqb (getD t i 0) (suc d) other, ne-eqb j i n)
     ]
 
-module _ {small : ℕ} {a : Pegs} (p q : List ℕ) (k : Kept small a p) where
+-- The discs after the first two are those after as many as are known by their letters.
+pub drop-apart : (p : List ℕ) → drop (min (length p) 2) p ≡ drop 2 p
+drop-apart [] = refl
+drop-apart (b ∷ []) = refl
+drop-apart (b ∷ c ∷ p) = let two : min (length (b ∷ c ∷ p)) 2 ≡ 2 = omega arith in rw two
+
+-- Discs with the first on the same peg are the same where those after it are.
+same-after : (p q : List ℕ) → length p ≡ length q → letterOf p ≡ letterOf q → same p q ≡ same (drop 1 p) (drop 1 q)
+unfolding letterOf same
+same-after [] [] size e = refl
+same-after [] (i ∷ q) size e = absurd (omega arith)
+same-after (j ∷ p) [] size e = absurd (omega arith)
+same-after (j ∷ p) (i ∷ q) size e = let is : j ≡ i = omega arith in rw (eq-eqb j i is)
+
+module _ {small second : ℕ} {a : Pegs} (p q : List ℕ) (k : Kept small second a p) where
   -- Disc 1 is on another peg.
   pub kept-apart : small ≢ peg q 0 + 65 → same p q ≡ false
   kept-apart n = same-apart p q (λ e. n (omega (arith, k .first, ap (λ (l : List ℕ). peg l 0) e)))
 
-  -- Disc 1 is on its peg, and the larger discs can be taken off.
-  pub kept-taken : length p ≡ length q → 0 < length q → WellFormed q → small ≡ peg q 0 + 65
-      → takenOff (a .top) (a .beneath) 0 (drop 1 q) ≡ same p q
-  kept-taken size some formed e = by p q size some formed (omega (arith, k .first)) (k .larger)
+  -- Disc 2 is.
+  pub kept-second : second ≢ letterOf (drop 1 q) → same p q ≡ false
+  kept-second n = same-apart p q (λ e. n (sym (k .next) ∙ ap (λ (l : List ℕ). letterOf (drop 1 l)) e))
+
+  -- Both are on their pegs, and the larger discs can be taken off.
+  pub kept-taken : length p ≡ length q → 0 < length q → WellFormed q → small ≡ peg q 0 + 65 → second ≡ letterOf (drop 1 q)
+      → takenOff (a .top) (a .beneath) 0 (drop 2 q) ≡ same p q
+  kept-taken size some formed e f = by p q size some formed (omega (arith, k .first)) (k .next ∙ f) (k .larger)
     where
-      by : (p q : List ℕ) → length p ≡ length q → 0 < length q → WellFormed q → peg p 0 ≡ peg q 0 → Holds a (drop 1 p)
-          → takenOff (a .top) (a .beneath) 0 (drop 1 q) ≡ same p q
-      by p [] size some formed e h = absurd (omega arith)
-      by [] (i ∷ q) size some formed e h = absurd (omega arith)
-      by (j ∷ p) (i ∷ q) size some formed e h =
-          let held : HoldsAfter (a .top) (a .beneath) p 0 =
+      by : (p q : List ℕ) → length p ≡ length q → 0 < length q → WellFormed q → peg p 0 ≡ peg q 0 → letterOf (drop 1 p) ≡ letterOf (drop 1 q)
+          → Holds a (drop 2 p) → takenOff (a .top) (a .beneath) 0 (drop 2 q) ≡ same p q
+      by p [] size some formed e f h = absurd (omega arith)
+      by [] (i ∷ q) size some formed e f h = absurd (omega arith)
+      by (j ∷ p) (i ∷ q) size some formed e f h =
+          let held : HoldsAfter (a .top) (a .beneath) (drop 1 p) 0 =
           record {
             tops = λ x l. omega (arith, h .tops x l);
             beneaths = λ x l. let same-place : 0 + x ≡ x = omega arith in rw same-place (omega (arith, h .beneaths x l));
           } in
-          taken-same q p (a .top) (a .beneath) 0 (omega arith) (formed-tail i q formed) held ∙ sym (unfold same in rw (eq-eqb j i e))
+          let sizes : length (drop 1 p) ≡ length (drop 1 q) = omega (arith, length-drop 1 p, length-drop 1 q) in
+          taken-same (drop 1 q) (drop 1 p) (a .top) (a .beneath) 0 sizes (formed-drop 1 q (formed-tail i q formed)) held
+          ∙ sym (same-after p q (omega arith) f)
+          ∙ sym (unfold same in rw (eq-eqb j i e))

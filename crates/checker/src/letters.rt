@@ -1,10 +1,12 @@
 // Letters of pegs. A byte is handed on as a number of 64 bits, which the compiler can index by as it is.
 ghost use mathlib.Core.Path.{_≡_};
+ghost use Prim.Native.Nat.{_<_};
 ghost use Rattle.checker.specs.Letters.{isLetter, allLetters};
 
 // A byte as a number.
 pub fn wide(byte: u8) -> usize
     ensures { λ r. ⌜ r ≡ byte ⌝ }
+    ensures { λ r. ⌜ r < 256 ⌝ }
 {
     byte as usize
 }

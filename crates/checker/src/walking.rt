@@ -1,13 +1,13 @@
-// A walk along letter pairs. Disc 1 is known by the letter of its peg, and the larger discs by their stacks: a move of disc 1 changes one number,
-// any other move three.
+// A walk along letter pairs. Discs 1 and 2 are known by the letters of their pegs, and the larger discs by their stacks: a move of disc 1 or 2
+// changes one number, any other move three.
 ghost use mathlib.Core.List.{List};
 ghost use mathlib.Core.Path.{_≡_};
-ghost use Prim.Native.Nat.{ℕ, _<_, _≤_};
-ghost use lib.ListN.{length};
+ghost use Prim.Native.Nat.{ℕ, _<_, _≤_, min};
+ghost use lib.ListN.{length, drop};
 ghost use Rattle.board.specs.Fewest.{same};
 ghost use Rattle.board.specs.Position.{WellFormed};
 ghost use Rattle.board.specs.Task.{limit};
-ghost use Rattle.checker.specs.Inner.Walk.{Kept, mayMove, Walks};
+ghost use Rattle.checker.specs.Inner.Walk.{letterOf, Kept, mayMove, Walks};
 ghost use Rattle.plan.specs.Inner.Sound.{Ends};
 ghost use Rattle.route.specs.Ours.{readMoves};
 ghost use Rattle.run.specs.Inner.Pegs.{arrays};
@@ -24,9 +24,30 @@ pub struct Walked {
     pub there: bool,
 }
 
-// Whether two bytes are a legal move. None goes to the peg of disc 1, which may go to any other; a larger disc goes onto a larger one.
-fn may_move(small: usize, top: &[usize; 3], from: usize, to: usize) -> bool
-    ensures { λ r. ⌜ r ≡ mayMove small (now (top .entry)) from to ⌝ }
+// No letter: more than any byte is.
+const NONE: usize = 256;
+
+// How many discs are known by their letters: the two smallest, or as many as there are.
+fn apart(n: usize) -> usize
+    ensures { λ r. ⌜ r ≡ min n 2 ⌝ }
+{
+    if n < 2 { n } else { 2 }
+}
+
+// The letter of disc 2's peg, or NONE where there is no such disc.
+fn second_letter(position: &[u8]) -> usize
+    ensures { λ r. ⌜ r ≡ letterOf (drop 1 (now (position .entry))) ⌝ }
+{
+    if position.len() < 2 {
+        return NONE;
+    }
+    wide(position[1]) + 65
+}
+
+// Whether two bytes are a legal move. None goes to the peg of disc 1, which may go to any other; then none to that of disc 2, which may go to any
+// other; a larger disc goes onto a larger one.
+fn may_move(small: usize, second: usize, top: &[usize; 3], from: usize, to: usize) -> bool
+    ensures { λ r. ⌜ r ≡ mayMove small second (now (top .entry)) from to ⌝ }
 {
     if !is_letter(to) {
         return false;
@@ -37,21 +58,37 @@ fn may_move(small: usize, top: &[usize; 3], from: usize, to: usize) -> bool
     if from == small {
         return true;
     }
+    if to == second {
+        return false;
+    }
+    if from == second {
+        return true;
+    }
     if !is_letter(from) {
         return false;
     }
     top[from - 65] < top[to - 65]
 }
 
-// Whether disc 1 and the larger discs stand as in the goal.
-fn stands(small: usize, top: [usize; 3], beneath: &[usize; LIMIT], goal: &[u8]) -> bool
+// Whether the discs stand as in the goal.
+fn stands(
+    small: usize,
+    second: usize,
+    top: [usize; 3],
+    beneath: &[usize; LIMIT],
+    goal: &[u8],
+) -> bool
     requires { ⌜ (0 < length (now goal)) × (length (now goal) ≤ limit) × WellFormed (now goal) ⌝ }
-    ensures { λ r. ⌜ ((p : List ℕ) → Kept small (arrays top (now (beneath .entry))) p → length p ≡ length (now (goal .entry)) → r ≡ same p (now (goal .entry))) ⌝ }
+    ensures { λ r. ⌜ ((p : List ℕ) → Kept small second (arrays top (now (beneath .entry))) p → length p ≡ length (now (goal .entry)) → r ≡ same p (now (goal .entry))) ⌝ }
 {
     if small != wide(goal[0]) + 65 {
         return false;
     }
-    take_off(top, beneath, &goal[1..])
+    if second != second_letter(goal) {
+        return false;
+    }
+    let known = apart(goal.len());
+    take_off(top, beneath, &goal[known..])
 }
 
 // Makes the moves of letter pairs from a start on, up to the first pair that is no legal move.
@@ -65,8 +102,10 @@ pub fn walk(start: &[u8], goal: &[u8], letters: &[u8]) -> Walked
             there: true,
         };
     }
-    let larger = Stacks::of(&start[1..]);
+    let known = apart(start.len());
+    let larger = Stacks::of(&start[known..]);
     let mut small = wide(start[0]) + 65;
+    let mut second = second_letter(start);
     let mut top = larger.top;
     let mut beneath = larger.beneath;
     let count = letters.len() / 2;
@@ -74,11 +113,13 @@ pub fn walk(start: &[u8], goal: &[u8], letters: &[u8]) -> Walked
     while i < count {
         let from = wide(letters[2 * i]);
         let to = wide(letters[2 * i + 1]);
-        if !may_move(small, &top, from, to) {
+        if !may_move(small, second, &top, from, to) {
             break;
         }
         if from == small {
             small = to;
+        } else if from == second {
+            second = to;
         } else {
             move_disc(&mut top, &mut beneath, from - 65, to - 65);
         }
@@ -86,6 +127,6 @@ pub fn walk(start: &[u8], goal: &[u8], letters: &[u8]) -> Walked
     }
     Walked {
         made: i,
-        there: stands(small, top, &beneath, goal),
+        there: stands(small, second, top, &beneath, goal),
     }
 }

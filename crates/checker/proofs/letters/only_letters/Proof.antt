@@ -34,7 +34,7 @@ is-letter-requires c κs = search needs
 returns : tie.Need-returns Inv-loop μ-loop
 returns c =
     let at = c .before .before .before .before .before in
-    let letter = ap isLetter (sym (c .before .before .wide .ensures)) ∙ sym (c .before .is-letter .ensures) in
+    let letter = ap isLetter (sym (c .before .before .wide .ensures .0)) ∙ sym (c .before .is-letter .ensures) in
     sym (sym (at .loop .inv .1) ∙ letters-fail _ (at .loop .i) (omega arith) (letter ∙ not-true _ (c .if1 .taken)))
 
 add-i : tie.Need-add-i Inv-loop μ-loop
@@ -47,7 +47,7 @@ loop-less c = omega arith
 loop-again : tie.Need-loop-again Inv-loop μ-loop
 loop-again c =
     let at = c .before .before .before .before .before in
-    let letter = ap isLetter (sym (c .before .before .wide .ensures)) ∙ sym (c .before .is-letter .ensures) in
+    let letter = ap isLetter (sym (c .before .before .wide .ensures .0)) ∙ sym (c .before .is-letter .ensures) in
     (omega arith, rw add-one (letters-past _ (at .loop .i) (omega arith) (letter ∙ not-false _ (c .if1 .left)) ∙ at .loop .inv .1))
 
 -- All are letters.

@@ -1,13 +1,13 @@
 -- `checker::walking::walk` meets its contract. The loop's invariant: i moves are made, and the position that they lead to is kept. The
 -- measure is how many pairs are left. Assumes nothing.
-use Prim.Native.Nat.{_-_, _≤_, _<_}
+use Prim.Native.Nat.{ℕ, _-_, _≤_, _<_}
 use mathlib.Core.Logic.{⊎-elim}
-use mathlib.Core.Path.{_≡_, _∙_, sym}
+use mathlib.Core.Path.{_≡_, _∙_, sym, ap}
 use native.Mathlib.Numerals.{add-one}
 use native.Mathlib.Omega.{arith}
 use borrow.Author.Needs.{needs}
 use borrow.Author.Tests.{not-true, not-false}
-use lib.ListN.{length, length-drop}
+use lib.ListN.{length, drop, length-drop}
 use Rattle.board.specs.Move.{Legal}
 use Rattle.board.proofs.Formed.{formed-pegs, formed-drop}
 use Rattle.plan.proofs.Parts.{part-to-end}
@@ -15,20 +15,24 @@ use Rattle.route.specs.Ours.{readMoves}
 use Rattle.checker.specs.Inner.Walk.{moveIn}
 use Rattle.checker.proofs.Pairs.{moves-length}
 use Rattle.checker.proofs.Small.{pairMove, pair-entry, legal-letters}
-use Rattle.checker.proofs.Walks.{Walking, here, walk-none, walking-begins, walking-may, walking-ends, walking-stops, walking-small, walking-larger, walking-carries}
+use Rattle.checker.proofs.Taken.{drop-apart}
+use Rattle.checker.proofs.Walks.{Walking, here, walk-none, walking-begins, walking-may, walking-ends, walking-stops, walking-small, walking-second, walking-larger, walking-carries}
 use Rattle.checker.proofs.walking.walk.Statement.{statement}
 use Rattle.checker.proofs.walking.walk.Tie as tie
 
 abbrev Inv-loop : tie.InvT-loop
-Inv-loop start goal letters small₀ top₀ beneath₀ count i₀ small top beneath i =
-    (i ≤ count) × Walking start (readMoves letters) i small top beneath
+Inv-loop start goal letters known small₀ second₀ top₀ beneath₀ count i₀ small second top beneath i =
+    (i ≤ count) × Walking start (readMoves letters) i small second top beneath
 
 abbrev μ-loop : tie.MeasureT-loop
-μ-loop start goal letters small₀ top₀ beneath₀ count i₀ small top beneath i = count - i
+μ-loop start goal letters known small₀ second₀ top₀ beneath₀ count i₀ small second top beneath i = count - i
 
 -- There are no discs.
 returns : tie.Need-returns Inv-loop μ-loop
 returns c = walk-none _ _ _ (c .before .before .before .before .pre .same) (c .if1 .taken)
+
+apart-requires : tie.Need-apart-requires Inv-loop μ-loop
+apart-requires c κs = search needs
 
 sub-of : tie.Need-sub-of Inv-loop μ-loop
 sub-of c = search needs
@@ -41,8 +45,9 @@ part-of-end c = search needs
 
 of-requires : tie.Need-of-requires Inv-loop μ-loop
 of-requires c κs =
-    let start = c .before .before .before .before .before in
-    rw part-to-end (omega (arith, length-drop 1 (start .args .start .now), start .pre .within), formed-drop 1 _ (start .pre .start-formed))
+    let start = c .before .before .before .before .before .before in
+    let known = c .before .apart .result in
+    rw part-to-end (omega (arith, length-drop known (start .args .start .now), start .pre .within), formed-drop known _ (start .pre .start-formed))
 
 shared-slice-read-wide : tie.Need-shared-slice-read-wide Inv-loop μ-loop
 shared-slice-read-wide c = search needs
@@ -52,13 +57,20 @@ wide-requires c κs = search needs
 
 add-small : tie.Need-add-small Inv-loop μ-loop
 add-small c =
-    let start = c .before .before .before .before .before .before .before .before in
-    omega (arith, c .wide .ensures, formed-pegs (start .args .start .now) (start .pre .start-formed) 0)
+    let start = c .before .before .before .before .before .before .before .before .before in
+    omega (arith, c .wide .ensures .0, formed-pegs (start .args .start .now) (start .pre .start-formed) 0)
+
+second-letter-requires : tie.Need-second-letter-requires Inv-loop μ-loop
+second-letter-requires c κs = search needs
 
 loop-holds : tie.Need-loop-holds Inv-loop μ-loop
 loop-holds c =
-    let wide = c .before .before in
-    (omega arith, walking-begins _ _ _ _ _ (wide .wide .ensures) (omega arith) (rw part-to-end at (wide .before .before .of .ensures)))
+    let second = c .before .before in
+    let wide = second .before in
+    let of = wide .before .before in
+    let start = of .before .before .before .before .before .before .before in
+    let left = ap (λ (k : ℕ). drop k (start .args .start .now)) (of .before .before .apart .ensures) ∙ drop-apart (start .args .start .now) in
+    (omega arith, walking-begins _ _ _ _ _ _ (wide .wide .ensures .0) (second .second-letter .ensures) (omega arith) (rw (part-to-end, left) at (of .of .ensures)))
 
 mul-wide : tie.Need-mul-wide Inv-loop μ-loop
 mul-wide c = omega arith
@@ -86,12 +98,12 @@ abbrev state : tie.After-wide3 Inv-loop μ-loop → tie.At-loop Inv-loop μ-loop
 state c = c .before .before .before .before .before
 
 abbrev begun : tie.At-loop Inv-loop μ-loop → tie.Start Inv-loop μ-loop
-begun c = c .before .before .before .before .before .before .before .before .before .before .before
+begun c = c .before .before .before .before .before .before .before .before .before .before .before .before .before
 
 -- The two bytes at hand are move i of the list.
 entry : (c : tie.After-wide3 Inv-loop μ-loop)
     → pairMove (c .before .before .wide2 .result) (c .wide3 .result) ≡ moveIn (readMoves (begun (state c) .args .letters .now)) (state c .loop .i)
-entry c = pair-entry _ _ _ _ (omega arith) (c .before .before .wide2 .ensures) (c .wide3 .ensures)
+entry c = pair-entry _ _ _ _ (omega arith) (c .before .before .wide2 .ensures .0) (c .wide3 .ensures .0)
 
 may-move-requires : tie.Need-may-move-requires Inv-loop μ-loop
 may-move-requires c κs = search needs
@@ -103,7 +115,7 @@ legal : (c : tie.Else2 Inv-loop μ-loop) →
     Legal (here (begun at .pre .start-formed) (at .loop .inv .1)) (pairMove (bytes .before .before .wide2 .result) (bytes .wide3 .result))
 legal c =
     let at = state (c .before .before .before) in
-    walking-may (begun at .pre .start-formed) (at .loop .inv .1) _ _ .0 (sym (c .before .may-move .ensures) ∙ not-false _ (c .if2 .left))
+    walking-may (begun at .pre .start-formed) (at .loop .inv .1) _ _ (c .before .before .before .before .before .wide2 .ensures .1) .0 (sym (c .before .may-move .ensures) ∙ not-false _ (c .if2 .left))
 
 -- There is such a move in the list.
 more : (c : tie.After-wide3 Inv-loop μ-loop) → state c .loop .i < length (readMoves (begun (state c) .args .letters .now))
@@ -118,18 +130,18 @@ letters : (c : tie.Else2 Inv-loop μ-loop) →
 letters c = legal-letters _ _ _ (legal c)
 
 sub-move-disc : tie.Need-sub-move-disc Inv-loop μ-loop
-sub-move-disc c = letters (c .before .before .before) .0
+sub-move-disc c = letters (c .before .before .before .before) .0
 
 sub-move-disc-2 : tie.Need-sub-move-disc-2 Inv-loop μ-loop
-sub-move-disc-2 c = letters (c .before .before .before) .1
+sub-move-disc-2 c = letters (c .before .before .before .before) .1
 
 move-disc-requires : tie.Need-move-disc-requires Inv-loop μ-loop
 move-disc-requires c κs =
-    let may = c .before .before .before in
+    let may = c .before .before .before .before in
     let bytes = may .before .before .before in
     let at = state bytes in
     let start = begun at in
-    let carries = walking-carries (start .pre .start-formed) (at .loop .inv .1) _ _ (legal may) (c .before .before .if3 .left) (start .pre .within) in
+    let carries = walking-carries (start .pre .start-formed) (at .loop .inv .1) _ _ (legal may) (c .before .before .before .if3 .left) (c .before .before .if4 .left) (start .pre .within) in
     (letters may .2, letters may .3, carries)
 
 add-i : tie.Need-add-i Inv-loop μ-loop
@@ -138,18 +150,23 @@ add-i c = omega arith
 loop-less : tie.Need-loop-less Inv-loop μ-loop
 loop-less c = omega arith
 
--- One more move is made, by disc 1 or by a larger disc.
+-- One more move is made, by disc 1, by disc 2 or by a larger disc.
 loop-again : tie.Need-loop-again Inv-loop μ-loop
 loop-again c =
     let bytes = c .before .before .before .before in
     let at = state bytes in
     let formed = begun at .pre .start-formed in
-    let w = at .loop .inv .1 in (
+    let w = at .loop .inv .1 in
+    let may = legal (c .before) in (
       omega arith,
       rw add-one
           (⊎-elim
-          (λ k. rw (k .1, k .2, k .3) (walking-small formed w _ _ (legal (c .before)) (more bytes) (entry bytes) (k .0 .taken)))
-          (λ k. rw (k .4, k .5, k .6) (walking-larger formed w _ _ (legal (c .before)) (more bytes) (entry bytes) (k .0 .left) (k .3 .ensures)))
+          (λ k. rw (k .1, k .2, k .3, k .4) (walking-small formed w _ _ may (more bytes) (entry bytes) (k .0 .taken)))
+          (⊎-elim
+          (λ k.
+          rw (k .2, k .3, k .4, k .5)
+          (walking-second formed w _ _ may (more bytes) (entry bytes) (k .0 .left) (bytes .before .before .wide2 .ensures .1) (k .1 .taken)))
+          (λ k. rw (k .5, k .6, k .7, k .8) (walking-larger formed w _ _ may (more bytes) (entry bytes) (k .0 .left) (k .1 .left) (k .4 .ensures))))
           (c .if3 .came)),
     )
 
@@ -174,7 +191,7 @@ stopped c more =
       };
       wide3 = k .4;
     } in
-    walking-stops (begun at .pre .start-formed) (at .loop .inv .1) _ _ (entry bytes) (sym (k .6 .ensures) ∙ not-true _ (k .7 .taken)))
+    walking-stops (begun at .pre .start-formed) (at .loop .inv .1) _ _ (k .2 .ensures .1) (entry bytes) (sym (k .6 .ensures) ∙ not-true _ (k .7 .taken)))
     (c .loop-test .came)
 
 stands-requires : tie.Need-stands-requires Inv-loop μ-loop
@@ -198,6 +215,7 @@ walk-spec =
     Inv-loop
     μ-loop
     returns
+    apart-requires
     sub-of
     part-of-start
     part-of-end
@@ -205,6 +223,7 @@ walk-spec =
     shared-slice-read-wide
     wide-requires
     add-small
+    second-letter-requires
     loop-holds
     mul-wide
     shared-slice-read-wide-2
