@@ -1,6 +1,5 @@
 -- `checker::walking::may_move` meets its contract: at each return the tests passed on the way give the test. Assumes nothing.
 use mathlib.Core.Bool.{true}
-use mathlib.Core.Logic.{_≢_}
 use mathlib.Core.Path.{_≡_, _∙_, sym}
 use native.Mathlib.Omega.{arith}
 use borrow.Author.Needs.{needs}

@@ -5,7 +5,7 @@ use mathlib.Core.Path.{_∙_, sym, ap}
 use native.Mathlib.Omega.{arith}
 use borrow.Author.Needs.{needs}
 use lib.ListN.{drop, length-drop}
-use Rattle.board.proofs.Formed.{formed-pegs, formed-drop}
+use Rattle.board.proofs.Formed.{formed-drop}
 use Rattle.plan.proofs.Parts.{part-to-end}
 use Rattle.checker.proofs.Taken.{drop-apart, kept-apart, kept-second, kept-taken}
 use Rattle.checker.proofs.walking.stands.Statement.{statement}

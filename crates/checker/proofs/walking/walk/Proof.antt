@@ -114,8 +114,10 @@ legal : (c : tie.Else2 Inv-loop μ-loop) →
     let at = state bytes in
     Legal (here (begun at .pre .start-formed) (at .loop .inv .1)) (pairMove (bytes .before .before .wide2 .result) (bytes .wide3 .result))
 legal c =
-    let at = state (c .before .before .before) in
-    walking-may (begun at .pre .start-formed) (at .loop .inv .1) _ _ (c .before .before .before .before .before .wide2 .ensures .1) .0 (sym (c .before .may-move .ensures) ∙ not-false _ (c .if2 .left))
+    let bytes = c .before .before .before in
+    let at = state bytes in
+    let exactly = walking-may (begun at .pre .start-formed) (at .loop .inv .1) _ _ (bytes .before .before .wide2 .ensures .1) in
+    exactly .0 (sym (c .before .may-move .ensures) ∙ not-false _ (c .if2 .left))
 
 -- There is such a move in the list.
 more : (c : tie.After-wide3 Inv-loop μ-loop) → state c .loop .i < length (readMoves (begun (state c) .args .letters .now))
