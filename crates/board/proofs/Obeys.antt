@@ -1,10 +1,11 @@
 -- Checks obey the faults that they look for, one after another: the laws by which demand 1 is shown of each call. Before them, laws of
 -- tests and the facts that they find.
 use Prim.Native.Nat.{ℕ}
-use mathlib.Core.Bool.{Bool, true, false, _||_, true≢false, false≢true}
+use mathlib.Core.Bool.{Bool, true, false, not, _||_, true≢false, false≢true}
 use mathlib.Core.List.{List, [], _∷_, _++_}
 use mathlib.Core.Logic.{_⊎_, inl, inr, _↔_}
 use mathlib.Core.Path.{_≡_, _∙_, refl, sym}
+use borrow.Author.Tests.{not-true}
 use Rattle.board.specs.Fault.{Fault, fault, First, Faultless, Obeys}
 use Rattle.board.specs.Reply.{Reply, refused, answer, _>>_, Check, pass, check}
 use Rattle.board.proofs.Replies.{refused-answer}
@@ -13,6 +14,12 @@ use Rattle.board.proofs.Replies.{refused-answer}
 pub fails : (test : Bool) {P : Type 0} → (test ≡ true) ↔ P → (test ≡ false) ↔ (¬ P)
 fails true found = ((λ e. absurd (true≢false e)), λ n. absurd (n (found .0 refl)))
 fails false found = ((λ e h. false≢true (found .1 h)), λ n. refl)
+
+-- So its negation passes exactly there.
+pub negated : (test : Bool) {P : Type 0} → (test ≡ true) ↔ P → (not test ≡ true) ↔ (¬ P)
+negated test found =
+    let (fails-there, there-fails) = fails test found in
+    ((λ e. fails-there (not-true test e)), λ n. rw (there-fails n))
 
 -- One of two tests passes exactly where one of two facts holds.
 pub either : (a b : Bool) {P Q : Type 0} → (a ≡ true) ↔ P → (b ≡ true) ↔ Q → ((a || b) ≡ true) ↔ (P ⊎ Q)

@@ -1,4 +1,4 @@
--- The refusals and their numbers (document 01, "The operations and when each refuses"; 13: 02, CR 5; 14 to 16: 02, CR 7).
+-- The refusals and their numbers (document 01, "The operations and when each refuses"; 13: 02, CR 5; 14 to 16: 02, CR 7; 19: 02, CR 9).
 use Prim.Native.Nat.{ℕ}
 use Rattle.board.specs.Reply.{refused, Check, pass}
 use Rattle.board.specs.declared.refusal.Refusal.{Refusal}
@@ -19,6 +19,7 @@ use Rattle.board.specs.declared.refusal.Refusal.the-variants.{
   NotLetterPairs,
   IllegalMove,
   NotShortest,
+  EmptyTower,
 }
 use Rattle.board.specs.declared.refusal.Verdict.{Verdict}
 use Rattle.board.specs.declared.refusal.Verdict.the-variants.{Accepted, Refused}
@@ -41,6 +42,7 @@ number NotWholeTasks = 13
 number NotLetterPairs = 14
 number IllegalMove = 15
 number NotShortest = 16
+number EmptyTower = 19
 
 -- What a verdict says, in that number.
 abbrev pub verdictReply : Verdict → Check

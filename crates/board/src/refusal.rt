@@ -19,6 +19,7 @@ pub enum Refusal {
     NotLetterPairs,
     IllegalMove,
     NotShortest,
+    EmptyTower,
 }
 
 // What a check of a call's input finds.
@@ -48,6 +49,7 @@ impl Refusal {
             Refusal::NotLetterPairs => 14,
             Refusal::IllegalMove => 15,
             Refusal::NotShortest => 16,
+            Refusal::EmptyTower => 19,
         }
     }
 }

@@ -6,13 +6,13 @@ use mathlib.Core.Logic.{_≢_, _↔_}
 use mathlib.Core.Path.{_≡_, refl}
 use native.Mathlib.Nat.{add-zero}
 use native.Mathlib.Omega.{arith}
-use borrow.Author.Tests.{not-true, not-false}
+use borrow.Author.Tests.{not-false}
 use Rattle.board.specs.Fault.{Faultless, Obeys, taskFaults}
 use Rattle.board.specs.Legal.{legalCheck}
 use Rattle.board.specs.Move.{Move, Legal}
 use Rattle.board.specs.Reply.{refused, answer, _>>_, pass, check}
 use Rattle.board.proofs.Legality.{legal-accepted, legal-passes, legal-obeys}
-use Rattle.board.proofs.Obeys.{fails, answer-obeys, check-obeys, then-obeys}
+use Rattle.board.proofs.Obeys.{negated, answer-obeys, check-obeys, then-obeys}
 use Rattle.board.proofs.Replies.{then-answered, check-answered}
 use Rattle.board.proofs.Tasks.{faultless-accepted, task-obeys}
 use Rattle.session.specs.Answer.{opened, beginAnswer, noSession, sessionOr, playCheck, moveMark, playAnswer, playedRecord, playLeaves, reportAnswer}
@@ -29,9 +29,7 @@ use Rattle.session.proofs.Soundness.{sound-record, record-sound, sound-
 
 -- The test fails exactly where the record is not sound.
 unsound : (s : Session) → (not (sound s) ≡ true) ↔ (¬ Sound s)
-unsound s =
-    let (fails-there, there-fails) = fails (sound s) (sound-exactly s) in
-    ((λ e. fails-there (not-true (sound s) e)), λ n. rw (there-fails n))
+unsound s = negated (sound s) (sound-exactly s)
 
 -- Begin is refused as the task faults say, and never else.
 pub begin-obeys : (t : List ℕ) → Obeys (taskFaults t) (beginAnswer t)

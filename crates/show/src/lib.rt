@@ -9,6 +9,7 @@ pub use answers::moving;
 pub use answers::placed;
 pub use answers::planned;
 pub use answers::ran;
+pub use sessions::held;
 pub use sessions::played;
 pub use sessions::record;
 pub use sessions::reported;

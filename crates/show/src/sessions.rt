@@ -56,7 +56,7 @@ pub fn reported(answer: Reported) {
 }
 
 // A position of n discs as a record holds it, or the whole array where n is more than there can be.
-fn held(name: &[u8], n: usize, position: [u8; LIMIT]) {
+pub fn held(name: &[u8], n: usize, position: [u8; LIMIT]) {
     text(name);
     if n <= LIMIT {
         digits(&position[..n]);
