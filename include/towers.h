@@ -38,8 +38,8 @@ extern "C" {
 #define TOWER_NOT_WHOLE_TASKS TOWER_REFUSED(13) /* the length of the tasks is not a multiple of 2n; with n = 0, not 0 */
 
 /* Whether an answer, or an entry of tower_batch, is a refusal; TOWER_NUMBER is then its number, one of those above. The numbers of the whole
- * library end with 19. */
-#define TOWER_IS_REFUSED(answer) ((uint64_t)(answer) >= TOWER_REFUSED(19))
+ * library end with 20. */
+#define TOWER_IS_REFUSED(answer) ((uint64_t)(answer) >= TOWER_REFUSED(20))
 #define TOWER_NUMBER(answer) ((unsigned)(0 - (uint64_t)(answer)))
 
 /* The fewest moves that lead from the task's start to its goal.

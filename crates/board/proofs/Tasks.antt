@@ -4,7 +4,7 @@ use mathlib.Core.Bool.{not}
 use mathlib.Core.List.{List, _++_}
 use mathlib.Core.Path.{_≡_, refl}
 use native.Mathlib.Omega.{arith}
-use borrow.Author.Tests.{eqb-true, eqb-false, eq-eqb, ltb-true, ltb-false, lt-ltb, not-false}
+use borrow.Author.Tests.{eqb-true, eqb-false, eq-eqb, ne-eqb, ltb-true, ltb-false, lt-ltb, le-ltb, not-false}
 use lib.Dec.{eqb, ltb}
 use lib.ListN.{length, length-append, length-take, length-drop}
 use lib.Seq.{take-at, drop-at}
@@ -12,7 +12,7 @@ use Rattle.board.specs.Fault.{Faultless, Obeys, taskFaults, positionFaul
 use Rattle.board.specs.Position.{wellFormed, WellFormed}
 use Rattle.board.specs.Reply.{pass}
 use Rattle.board.specs.Task.{limit, discs, start, goal, taskCheck, positionCheck}
-use Rattle.board.proofs.Formed.{formed-take, formed-drop, not-formed}
+use Rattle.board.proofs.Formed.{formed-take, formed-drop, formed-append, not-formed}
 use Rattle.board.proofs.Obeys.{check-obeys, then-obeys}
 use Rattle.board.proofs.Replies.{check-passed, check-answered}
 
@@ -63,6 +63,17 @@ pub joined-task : (s g : List ℕ) → length s ≡ length g → (discs (s ++ g)
 joined-task s g e =
     let half : discs (s ++ g) ≡ length s = omega (arith, length-append s g) in
     (half, rw half (take-at s g (length s) refl), rw half (drop-at s g (length s) refl))
+
+-- If they are well formed and have at most `limit` discs, that task is accepted.
+pub joined-accepted : (s g : List ℕ) → length s ≡ length g → length s ≤ limit → WellFormed s → WellFormed g → taskCheck (s ++ g) ≡ pass
+unfolding taskCheck
+joined-accepted s g e few hs hg =
+    let half = joined-task s g e .0 in
+    rw (
+      ne-eqb (length (s ++ g) % 2) 1 (omega (arith, length-append s g)),
+      le-ltb limit (discs (s ++ g)) (omega arith),
+      formed-append s g hs hg,
+    )
 
 -- A task is refused with 1, 2 and 3 as its faults say.
 pub task-obeys : (t : List ℕ) → Obeys (taskFaults t) (taskCheck t)

@@ -1,4 +1,5 @@
--- The refusals and their numbers (document 01, "The operations and when each refuses"; 13: 02, CR 5; 14 to 16: 02, CR 7; 19: 02, CR 9).
+-- The refusals and their numbers (document 01, "The operations and when each refuses"; 13: 02, CR 5; 14 to 16: 02, CR 7; 19: 02, CR 9;
+-- 20: 02, CR 10).
 use Prim.Native.Nat.{ℕ}
 use Rattle.board.specs.Reply.{refused, Check, pass}
 use Rattle.board.specs.declared.refusal.Refusal.{Refusal}
@@ -20,6 +21,7 @@ use Rattle.board.specs.declared.refusal.Refusal.the-variants.{
   IllegalMove,
   NotShortest,
   EmptyTower,
+  TooLargeToTotal,
 }
 use Rattle.board.specs.declared.refusal.Verdict.{Verdict}
 use Rattle.board.specs.declared.refusal.Verdict.the-variants.{Accepted, Refused}
@@ -43,6 +45,7 @@ number NotLetterPairs = 14
 number IllegalMove = 15
 number NotShortest = 16
 number EmptyTower = 19
+number TooLargeToTotal = 20
 
 -- What a verdict says, in that number.
 abbrev pub verdictReply : Verdict → Check

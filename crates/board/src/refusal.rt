@@ -20,6 +20,7 @@ pub enum Refusal {
     IllegalMove,
     NotShortest,
     EmptyTower,
+    TooLargeToTotal,
 }
 
 // What a check of a call's input finds.
@@ -50,6 +51,7 @@ impl Refusal {
             Refusal::IllegalMove => 15,
             Refusal::NotShortest => 16,
             Refusal::EmptyTower => 19,
+            Refusal::TooLargeToTotal => 20,
         }
     }
 }

@@ -7,17 +7,10 @@ use native.Mathlib.Omega.{arith}
 use lib.Dec.{eqb}
 use lib.ListN.{length, getD}
 use Rattle.board.specs.Fewest.{same}
-use Rattle.board.specs.Peg.{third}
-use Rattle.plan.specs.Inner.Three.{Three}
-use Rattle.plan.proofs.Three.{three, each-peg}
+use Rattle.plan.proofs.Three.{pegs, each-peg}
 use Rattle.builder.specs.Lengths.{eachPeg}
 
--- The three pegs.
-pegs : Three 0 1 2
-unfolding third
-pegs = three 0 1 (omega arith) (omega arith) (omega arith)
-
--- What holds of each of them holds of every peg.
+-- What holds of each of the three pegs holds of every peg.
 pub each : (P : ℕ → Type 0) → P 0 → P 1 → P 2 → (i : ℕ) → i < 3 → P i
 each P = each-peg P pegs
 

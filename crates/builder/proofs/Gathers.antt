@@ -5,14 +5,14 @@ use mathlib.Core.Logic.{_≢_}
 use mathlib.Core.Path.{_≡_, _∙_, refl, sym, ap}
 use native.Mathlib.Omega.{arith}
 use borrow.Author.Tests.{ne-eqb}
-use lib.ListN.{length, getD, set, take, length-append, List·getD-append}
+use lib.ListN.{length, getD, set, take, length-append}
 use lib.Seq.{length-take-le, take-suc, getD-append-seam}
 use Rattle.board.specs.Peg.{third}
 use Rattle.board.specs.Position.{peg, WellFormed}
 use Rattle.board.proofs.Formed.{formed-pegs}
 use Rattle.board.proofs.Pegs.{third-peg}
 use Rattle.plan.specs.Gather.{gather}
-use Rattle.plan.proofs.Gathering.{Pegs, gather-cong, gather-bound}
+use Rattle.plan.proofs.Gathering.{Pegs, gather-append, gather-bound}
 use Rattle.builder.specs.Lengths.{gathers, share, lengthsWith, lengthsWithout}
 use Rattle.builder.proofs.EachPeg.{each, alike, agree, each-at}
 
@@ -34,11 +34,14 @@ gathers-with p j = cc (at 0 (omega arith), at 1 (omega arith), at 2 (omega arith
     more : length (p ++ (j ∷ [])) ≡ suc (length p)
     more = omega (arith, length-append p (j ∷ []))
 
-    below : (i : ℕ) → gather (peg (p ++ (j ∷ []))) (length p) i ≡ gather (peg p) (length p) i
-    below i = gather-cong (length p) {p = peg (p ++ (j ∷ []))} {q = peg p} i (λ d l. List·getD-append p (j ∷ []) 0 d l)
-
     at : (i : ℕ) → i < 3 → gather (peg (p ++ (j ∷ []))) (length (p ++ (j ∷ []))) i ≡ share (length p) j i + getD (gathers p) (third i j) 0
-    at i h = rw (more, getD-append-seam p j [] 0, below, gathers-at p (third i j) (third-peg i j h))
+    at i h =
+        rw (
+          more,
+          getD-append-seam p j [] 0,
+          gather-append p (j ∷ []) (length p) (third i j) (omega arith),
+          gathers-at p (third i j) (third-peg i j h),
+        )
 
 -- So it is with the next disc of an array.
 pub gathers-next : (a : List ℕ) (d : ℕ) → d < length a → gathers (take (suc d) a) ≡ lengthsWith (gathers (take d a)) d (peg a d)

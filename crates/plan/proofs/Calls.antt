@@ -1,6 +1,6 @@
 -- What Gather and Plan answer, and when: the laws for whoever calls them.
-use Prim.Native.Nat.{ℕ, _<_}
-use mathlib.Core.List.{List, append-nil}
+use Prim.Native.Nat.{ℕ, _≤_, _<_}
+use mathlib.Core.List.{List, _++_, append-nil}
 use mathlib.Core.Logic.{_↔_}
 use mathlib.Core.Bool.{true, not}
 use mathlib.Core.Path.{_≡_, _∙_, sym}
@@ -10,12 +10,12 @@ use lib.Dec.{ltb}
 use lib.ListN.{length, replicate}
 use Rattle.board.specs.Fault.{Obeys, Faultless, taskFaults}
 use Rattle.board.specs.Fewest.{Fewest, fewest}
-use Rattle.board.specs.Position.{peg}
+use Rattle.board.specs.Position.{peg, WellFormed}
 use Rattle.board.specs.Reply.{refused, answer, pass}
-use Rattle.board.specs.Task.{start, goal, taskCheck, positionCheck}
+use Rattle.board.specs.Task.{limit, start, goal, taskCheck, positionCheck}
 use Rattle.board.proofs.Obeys.{answer-obeys, check-obeys, then-obeys}
 use Rattle.board.proofs.Replies.{then-answered, then-refused, check-answered}
-use Rattle.board.proofs.Tasks.{SoundTask, SoundPosition, task-accepted, faultless-accepted, position-accepted, task-obeys, position-obeys}
+use Rattle.board.proofs.Tasks.{SoundTask, SoundPosition, task-accepted, faultless-accepted, position-accepted, joined-task, joined-accepted, task-obeys, position-obeys}
 use Rattle.plan.specs.Answer.{gatherAnswer, planAnswer}
 use Rattle.plan.specs.Faults.{gatherFaults}
 use Rattle.plan.specs.Gather.{gather}
@@ -41,6 +41,12 @@ plan-obeys t = rw (← append-nil (taskFaults t)) (then-obeys (task-obeys t) (an
 pub plan-accepts : (t : List ℕ) → Faultless (taskFaults t) → planAnswer t ≡ answer (planOf (start t) (goal t))
 unfolding planAnswer
 plan-accepts t none = rw (faultless-accepted t none)
+
+-- So is one made of two positions of one size.
+pub plan-joined : (p q : List ℕ) → length p ≡ length q → length p ≤ limit → WellFormed p → WellFormed q → planAnswer (p ++ q) ≡ answer (planOf p q)
+unfolding planAnswer
+plan-joined p q e few hp hq =
+    let (half, from, to) = joined-task p q e in rw (joined-accepted p q e few hp hq, from, to)
 
 -- What an answered plan says: its task is sound, and it is the plan of the rules.
 pub record PlanAnswered (t : List ℕ) (p : Plan) : Type 0 where

@@ -2,17 +2,20 @@
 use Prim.Native.Nat.{ℕ, zero, suc, _+_, _≤_, _<_, _^_, min}
 use mathlib.Core.Path.{_≡_, _∙_, sym, refl, subst}
 use mathlib.Core.Bool.{cond}
+use mathlib.Core.List.{List, _++_}
 use mathlib.Core.Logic.{_≢_, ⊎-elim}
 use native.Mathlib.Decide.{ℕ-discrete}
 use native.Mathlib.Omega.{arith}
 use lib.Dec.{eqb}
+use lib.ListN.{length, List·getD-append}
 use borrow.Author.Tests.{eq-eqb, ne-eqb}
 use Rattle.board.specs.Peg.{third}
+use Rattle.board.specs.Position.{peg}
 use Rattle.plan.specs.Gather.{gather}
 use Rattle.plan.specs.Plan.{direct, detour}
 use Rattle.plan.specs.Inner.Three.{Three}
 use Rattle.plan.proofs.Three.{three-third, three-swap, three-turn, three-flip, compare-pegs, each-peg}
-use Rattle.plan.proofs.Gathering.{Pegs, Tower, gather-home, gather-away, gather-tower, gather-shift, gather-bound}
+use Rattle.plan.proofs.Gathering.{Pegs, Tower, gather-home, gather-away, gather-append, gather-tower, gather-shift, gather-bound}
 use Rattle.plan.proofs.Step.{Step, Crossing, step-less, step-crossing, step-gather}
 
 -- The fewest moves between the discs 1 to k of p and q, as the plan has it.
@@ -40,6 +43,34 @@ pub dist-away : (p q : ℕ → ℕ) (k : ℕ) {x y z : ℕ} → p k ≡ x → q 
 unfolding direct detour
 dist-away p q k {x} {y} {z} ex ey h =
     dist-plan p q k (λ e. h .first-second (sym ex ∙ e ∙ ey)) ∙ rw (ex, ey, three-third h)
+
+-- What comes after the discs that move makes no difference to the lengths of the plan of disc k + 1 ..
+pub direct-append : (p q zs ws : List ℕ) (k : ℕ) → k < length p → k < length q → direct (peg (p ++ zs)) (peg (q ++ ws)) k ≡ direct (peg p) (peg q) k
+unfolding direct
+direct-append p q zs ws k hp hq =
+    let lp : k ≤ length p = omega arith in
+    let lq : k ≤ length q = omega arith in
+    rw (List·getD-append p zs 0 k hp, List·getD-append q ws 0 k hq, gather-append p zs k, gather-append q ws k)
+
+pub detour-append : (p q zs ws : List ℕ) (k : ℕ) → k < length p → k < length q → detour (peg (p ++ zs)) (peg (q ++ ws)) k ≡ detour (peg p) (peg q) k
+unfolding detour
+detour-append p q zs ws k hp hq =
+    let lp : k ≤ length p = omega arith in
+    let lq : k ≤ length q = omega arith in
+    rw (List·getD-append p zs 0 k hp, List·getD-append q ws 0 k hq, gather-append p zs k, gather-append q ws k)
+
+-- .. and so to the distance.
+pub dist-append : (p q zs ws : List ℕ) (k : ℕ) → k ≤ length p → k ≤ length q → dist (peg (p ++ zs)) (peg (q ++ ws)) k ≡ dist (peg p) (peg q) k
+unfolding dist
+dist-append p q zs ws zero hp hq = refl
+dist-append p q zs ws (suc k) hp hq =
+    rw (
+      List·getD-append p zs 0 k hp,
+      List·getD-append q ws 0 k hq,
+      direct-append p q zs ws k hp hq,
+      detour-append p q zs ws k hp hq,
+      dist-append p q zs ws k (omega arith) (omega arith),
+    )
 
 -- It is as far back.
 pub dist-comm : (p q : ℕ → ℕ) → Pegs p → Pegs q → (k : ℕ) → dist p q k ≡ dist q p k

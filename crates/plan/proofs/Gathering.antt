@@ -1,13 +1,16 @@
 -- Laws of the gather length, for any number k of discs, counted from the smallest.
-use Prim.Native.Nat.{ℕ, zero, suc, _+_, _<_, _^_}
+use Prim.Native.Nat.{ℕ, zero, suc, _+_, _≤_, _<_, _^_}
+use mathlib.Core.List.{List, _++_}
 use mathlib.Core.Path.{_≡_, _∙_, ap, sym, refl}
 use mathlib.Core.Logic.{⊎-elim}
 use native.Mathlib.Decide.{ℕ-discrete}
 use native.Mathlib.Nat.{zero-add}
 use native.Mathlib.Omega.{arith}
+use lib.ListN.{length, List·getD-append}
 use lib.Pow.{pow-pos}
 use borrow.Author.Tests.{eq-eqb, ne-eqb}
 use Rattle.board.specs.Peg.{third}
+use Rattle.board.specs.Position.{peg}
 use Rattle.board.proofs.Pegs.{third-same}
 use Rattle.plan.specs.Gather.{gather}
 use Rattle.plan.specs.Inner.Three.{Three}
@@ -37,6 +40,10 @@ unfolding gather
 gather-cong zero j h = refl
 gather-cong (suc k) {p} {q} j h =
     rw (h k (omega arith), gather-cong k {p = p} {q = q} (third j (q k)) (λ d l. h d (omega arith)))
+
+-- They are the same in a position with anything after it.
+pub gather-append : (p zs : List ℕ) (k j : ℕ) → k ≤ length p → gather (peg (p ++ zs)) k j ≡ gather (peg p) k j
+gather-append p zs k j h = gather-cong k {p = peg (p ++ zs)} {q = peg p} j (λ d l. List·getD-append p zs 0 d (omega arith))
 
 -- A tower on its target is gathered.
 pub gather-tower : (p : ℕ → ℕ) (k c : ℕ) → Tower p k c → gather p k c ≡ 0

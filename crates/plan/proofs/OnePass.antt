@@ -7,7 +7,7 @@ use mathlib.Core.Logic.{_≢_}
 use native.Mathlib.Nat.{add-mul, mul-assoc, mul-left-comm, mul-le-mul-left, mul-le-mul-right, mul-one, one-mul, zero-add, zero-mul, pow-succ'}
 use native.Mathlib.Omega.{arith}
 use lib.Dec.{eqb}
-use lib.ListN.{length, getD, set, List·getD-append}
+use lib.ListN.{length, getD, set}
 use lib.Pow.{pow-pos}
 use lib.Seq.{getD-set-other}
 use mir.Val.{boolByte}
@@ -17,7 +17,7 @@ use Rattle.board.proofs.Pegs.{third-peg}
 use Rattle.plan.specs.Gather.{gather}
 use Rattle.plan.specs.Inner.Sound.{Together}
 use Rattle.plan.specs.Inner.Together.{added, together}
-use Rattle.plan.proofs.Gathering.{gather-cong}
+use Rattle.plan.proofs.Gathering.{gather-append}
 
 -- 1 where disc k is not on its target, else 0, as the code says it.
 abbrev pub off : List ℕ → ℕ → ℕ → ℕ
@@ -148,15 +148,11 @@ module _ {s t : List ℕ} {k i j i′ j′ : ℕ} {sums : List ℕ} (ready : Tog
         ≡ together s t k i j i′ j′ sums
     together-more = cc (added-more s t k i j (getD sums 0 0) n, added-more s t k i′ j′ (getD sums 1 0) n)
 
--- The pegs that are gathered are the same in a position with anything after it.
-gather-copied : (p zs : List ℕ) (k j : ℕ) → k ≤ length p → gather (peg (p ++ zs)) k j ≡ gather (peg p) k j
-gather-copied p zs k j h = gather-cong k {p = peg (p ++ zs)} {q = peg p} j (λ d l. List·getD-append p zs 0 d (omega arith))
-
 -- From sums of 0, each plan's is the lengths of its two gathers.
 pub together-copied : (p q zs ws : List ℕ) (k i j i′ j′ : ℕ) → k ≤ length p → k ≤ length q
     → together (p ++ zs) (q ++ ws) k i j i′ j′ (0 ∷ 0 ∷ [])
     ≡ (gather (peg p) k i + gather (peg q) k j) ∷ (gather (peg p) k i′ + gather (peg q) k j′) ∷ []
 unfolding added
 together-copied p q zs ws k i j i′ j′ hp hq =
-    rw (gather-copied p zs k i hp, gather-copied q ws k j hq, gather-copied p zs k i′ hp, gather-copied q ws k j′ hq)
+    rw (gather-append p zs k i hp, gather-append q ws k j hq, gather-append p zs k i′ hp, gather-append q ws k j′ hq)
     (simp (zero-mul, zero-add))

@@ -1,6 +1,6 @@
 -- Three pegs in some order: what a case split on pegs leaves.
 use Prim.Native.Nat.{ℕ, _+_, _-_, _<_}
-use mathlib.Core.Path.{_≡_, _∙_, subst}
+use mathlib.Core.Path.{_≡_, _∙_, ap, subst}
 use mathlib.Core.Logic.{_≢_, _⊎_, inl, inr}
 use native.Mathlib.Decide.{ℕ-discrete}
 use native.Mathlib.Omega.{arith}
@@ -21,6 +21,10 @@ three i j hi hj ij =
       second-third = omega arith;
       sum = omega arith;
     })
+
+-- The pegs themselves.
+pub pegs : Three 0 1 2
+pegs = omega arith
 
 -- The third peg of two of three is the other.
 pub three-third : {i j k : ℕ} → Three i j k → third i j ≡ k
@@ -64,4 +68,25 @@ each-peg P {i} {j} {k} h pi pj pk l hl =
     elim (ℕ-discrete i l) [
       | yes e ↦ subst P e pi
       | no n ↦ elim (ℕ-discrete j l) [ yes e ↦ subst P e pj | no m ↦ let e : k ≡ l = omega arith in subst P e pk ]
+    ]
+
+-- What is added up over the three pegs is the same in any order.
+pub three-sum : (f : ℕ → ℕ) {i j k : ℕ} → Three i j k → f 0 + f 1 + f 2 ≡ f i + f j + f k
+three-sum f {i} {j} {k} h =
+    let at : (l m : ℕ) → l ≡ m → f l ≡ f m = λ l m e. ap f e in
+    elim (ℕ-discrete i 0) [
+      | yes e ↦ elim (ℕ-discrete j 1) [
+        | yes e′ ↦ omega (arith, at i 0 e, at j 1 e′, at k 2 (omega arith))
+        | no n ↦ omega (arith, at i 0 e, at j 2 (omega arith), at k 1 (omega arith))
+      ]
+      | no l ↦ elim (ℕ-discrete i 1) [
+        | yes e ↦ elim (ℕ-discrete j 0) [
+          | yes e′ ↦ omega (arith, at i 1 e, at j 0 e′, at k 2 (omega arith))
+          | no n ↦ omega (arith, at i 1 e, at j 2 (omega arith), at k 0 (omega arith))
+        ]
+        | no m ↦ elim (ℕ-discrete j 0) [
+          | yes e′ ↦ omega (arith, at i 2 (omega arith), at j 0 e′, at k 1 (omega arith))
+          | no n ↦ omega (arith, at i 2 (omega arith), at j 1 (omega arith), at k 0 (omega arith))
+        ]
+      ]
     ]

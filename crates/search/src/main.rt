@@ -3,7 +3,7 @@
 // For n from 0 to 6 discs, and for each of the 3^n positions as the start, a breadth-first search over the legal moves finds the distance
 // of every position and the number of shortest lists of moves to it. It takes nothing from the library: a position is a number in base 3,
 // digit d the peg of disc d + 1, and the legal moves are told from the tops of the pegs. The answers of Plan, Move, Place, Run, Parts,
-// Wear, the checker and Locate are compared with that. A line for each n has
+// Wear, the checker, Locate and Totals are compared with that. A line for each n has
 //   pairs    the ordered pairs of a start and a goal
 //   sum      the distances of all of them, added up
 //   ties     the pairs with two shortest lists
@@ -20,6 +20,7 @@
 //   moves    the moves of all of those pairs' shortest lists, by the search
 //   located  the triples of a start, a goal and a position q for which Locate answers as the distances say: where those by way of q add up
 //            to that of the goal, the distance of q as the index and the lowest route on which Place has q there, and else Off
+//   totals   of the two numbers that Totals answers for n, those that are this line's sum and ties
 //   wrong    the comparisons that fail, which the other columns but pairs, sum, ties and moves leave out
 mod listing;
 mod locating;
@@ -28,16 +29,18 @@ mod parting;
 mod position;
 mod spread;
 mod tally;
+mod totalling;
 mod walking;
 mod wearing;
 
 use show::named;
 use tally::Tally;
+use totalling::with_totals;
 
 fn main() {
     let mut n = 0;
     while n < 7 {
-        write_line(n, pairs::all_pairs(n));
+        write_line(n, with_totals(pairs::all_pairs(n), n));
         n += 1;
     }
 }
@@ -57,6 +60,7 @@ fn write_line(n: usize, t: Tally) {
     named(b", lists ", t.lists);
     named(b", moves ", t.moves);
     named(b", located ", t.located);
+    named(b", totals ", t.totals);
     named(b", wrong ", t.wrong);
     show::text(b"\n");
 }

@@ -42,6 +42,7 @@ pub struct Tally {
     pub lists: u64,
     pub moves: u64,
     pub located: u64,
+    pub totals: u64,
     pub wrong: u64,
 }
 
@@ -60,6 +61,7 @@ impl Tally {
             lists: 0,
             moves: 0,
             located: 0,
+            totals: 0,
             wrong: 0,
         }
     }
@@ -108,5 +110,11 @@ impl Tally {
     pub fn with_positions(mut self, all: u64, right: u64) -> Tally {
         self.located = plus(self.located, right);
         self.judged(all, right)
+    }
+
+    // With the totals of the size, and whether the sum and the number of ties are those of all pairs.
+    pub fn with_totals(mut self, sum: bool, ties: bool) -> Tally {
+        self.totals = plus(one_if(sum), one_if(ties));
+        self.judged(2, self.totals)
     }
 }

@@ -17,7 +17,7 @@ use Rattle.plan.proofs.Calls.{plan-obeys, plan-answered}
 use Rattle.plan.proofs.Sound.{task-ends, ends-fit}
 use Rattle.word.specs.Words.{word, shortestReply, shortestWord, lastNumber, Tells}
 
--- The refusals have numbers from 1 to 19.
+-- The refusals have numbers from 1 to 20.
 pub number-between : (r : Refusal) → (1 ≤ number r) × (number r ≤ lastNumber)
 number-between refusal.OddLength = omega arith
 number-between refusal.TooManyDiscs = omega arith
@@ -36,6 +36,7 @@ number-between refusal.NotLetterPairs = omega arith
 number-between refusal.IllegalMove = omega arith
 number-between refusal.NotShortest = omega arith
 number-between refusal.EmptyTower = omega arith
+number-between refusal.TooLargeToTotal = omega arith
 
 -- All numbers of a list of faults are among them.
 abbrev pub Numbered : List Fault → Type 0

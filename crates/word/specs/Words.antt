@@ -21,7 +21,7 @@ shortestWord t = word (shortestReply t)
 
 -- The most that a refusal's number is.
 abbrev pub lastNumber : ℕ
-lastNumber = 19
+lastNumber = 20
 
 -- A number tells a reply: a refusal has one of the numbers 1 to `lastNumber`, the number is 2 ^ 64 − k exactly where the reply is refused
 -- with such a k, and an answer is itself, below 2 ^ 60.

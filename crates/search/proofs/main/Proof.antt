@@ -17,6 +17,9 @@ loop-holds c = search needs
 all-pairs-requires : tie.Need-all-pairs-requires Inv-loop μ-loop
 all-pairs-requires c κs = search needs
 
+with-totals-requires : tie.Need-with-totals-requires Inv-loop μ-loop
+with-totals-requires c κs = search needs
+
 write-line-requires : tie.Need-write-line-requires Inv-loop μ-loop
 write-line-requires c κs = search needs
 
@@ -40,6 +43,7 @@ main-spec =
     μ-loop
     loop-holds
     all-pairs-requires
+    with-totals-requires
     write-line-requires
     add-n
     loop-less

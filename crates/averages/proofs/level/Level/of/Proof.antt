@@ -1,0 +1,56 @@
+-- `averages::level::Level::of` meets its contract. The loop's invariant: the level is that of k discs. The measure is what is left of n.
+-- Assumes nothing.
+use Prim.Native.Nat.{_-_, _≤_}
+use mathlib.Core.Path.{_≡_}
+use native.Mathlib.Numerals.{add-one}
+use native.Mathlib.Omega.{arith}
+use borrow.Author.Needs.{needs}
+use Rattle.averages.specs.Level.{levelOf}
+use Rattle.averages.proofs.Levels.{level-next, level-fits}
+use Rattle.averages.proofs.level.Level.of.Statement.{statement}
+use Rattle.averages.proofs.level.Level.of.Tie as tie
+
+abbrev Inv-loop : tie.InvT-loop
+Inv-loop n level₀ k₀ level k = (k ≤ n) × (level ≡ levelOf k)
+
+abbrev μ-loop : tie.MeasureT-loop
+μ-loop n level₀ k₀ level k = n - k
+
+none-requires : tie.Need-none-requires Inv-loop μ-loop
+none-requires c κs = search needs
+
+loop-holds : tie.Need-loop-holds Inv-loop μ-loop
+loop-holds c = search needs
+
+next-requires : tie.Need-next-requires Inv-loop μ-loop
+next-requires c κs = rw (c .before .loop .inv .1) (level-fits (c .before .loop .k) (omega arith))
+
+add-k : tie.Need-add-k Inv-loop μ-loop
+add-k c = omega arith
+
+loop-less : tie.Need-loop-less Inv-loop μ-loop
+loop-less c = omega arith
+
+loop-again : tie.Need-loop-again Inv-loop μ-loop
+loop-again c =
+    let at = c .before .before .loop in
+    (omega arith, rw (add-one, ← level-next (at .k), ← at .inv .1) (c .next .ensures))
+
+returns : tie.Need-returns Inv-loop μ-loop
+returns c =
+    let end : c .before .loop .k ≡ c .before .before .before .args .n = omega arith in
+    rw (← end) (c .before .loop .inv .1)
+
+pub of-spec : {M : Type 1} → statement M
+of-spec =
+    tie.close
+    (tie.spec
+    Inv-loop
+    μ-loop
+    none-requires
+    loop-holds
+    next-requires
+    add-k
+    loop-less
+    loop-again
+    returns)
