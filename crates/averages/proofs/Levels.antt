@@ -6,7 +6,8 @@ use native.Mathlib.Omega.{arith}
 use lib.Pow.{pow-add}
 use Rattle.averages.specs.Answer.{totalsLimit}
 use Rattle.averages.specs.Hinz.{u, v, x, y, sumBy, tiesBy}
-use Rattle.averages.specs.Level.{levelOf, inU, inV, inSum, nextOf, Fits}
+use Rattle.averages.specs.Inner.Next.{nextOf}
+use Rattle.averages.specs.Level.{levelOf, inU, inV, inSum, Fits}
 use Rattle.averages.proofs.Powers.{power-times, six-fifths, a-fifth, eighteen-fifths, below-eighteen, in-u, in-v, in-sum}
 
 -- The powers and products of level k are those of the recurrences.

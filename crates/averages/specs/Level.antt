@@ -1,7 +1,6 @@
 -- What is worked out for k discs, what it makes of one disc more, and the numbers on the way (02, CR 10).
 use Prim.Native.Nat.{ℕ, _+_, _-_, _*_, _/_, _^_, _≤_, _<_}
 use Rattle.averages.specs.Hinz.{u, v, x, y, sumBy, tiesBy}
-use Rattle.averages.specs.declared.answer.Totals.{Totals}
 use Rattle.averages.specs.declared.level.Level.{Level}
 
 -- The numbers of k discs.
@@ -40,24 +39,6 @@ nextSum l = 3 * l .sum + inSum l - 6 * l .u
 
 abbrev pub nextTies : Level → ℕ
 nextTies l = 3 * l .ties + 6 * l .x
-
--- One disc more.
-abbrev pub nextOf : Level → Level
-nextOf l =
-    record {
-      two = 2 * l .two;
-      three = 3 * l .three;
-      u = nextU l;
-      v = nextV l;
-      x = nextX l;
-      y = nextY l;
-      sum = nextSum l;
-      ties = nextTies l;
-    }
-
--- The totals among them.
-abbrev pub totalsBy : Level → Totals
-totalsBy l = record { sum = l .sum; ties = l .ties }
 
 -- Every number on the way to the next level fits 64 bits, and no difference is below 0.
 pub record Fits (l : Level) : Type 0 where

@@ -11,3 +11,5 @@ pub mod Hinz
 pub mod Level
 -- What request 10 asks of the call.
 pub mod Request10
+-- What our own functions promise each other.
+pub mod Inner

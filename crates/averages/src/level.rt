@@ -2,7 +2,8 @@
 ghost use mathlib.Core.Path.{_≡_};
 ghost use Prim.Native.Nat.{_≤_};
 ghost use Rattle.averages.specs.Answer.{totalsLimit};
-ghost use Rattle.averages.specs.Level.{levelOf, nextU, nextV, nextX, nextY, nextSum, nextTies, nextOf, totalsBy, Fits};
+ghost use Rattle.averages.specs.Inner.Next.{nextOf, totalsBy};
+ghost use Rattle.averages.specs.Level.{levelOf, nextU, nextV, nextX, nextY, nextSum, nextTies, Fits};
 use crate::answer::Totals;
 
 // What is worked out for k discs: 2^k, 3^k, Hinz's u, v, x and y, the sum of the fewest moves and the number of ties.
