@@ -38,8 +38,8 @@ pub record Alike (φ : ℕ → ℕ → ℕ) (n u w : ℕ) : Type 0 where
 
 module _ {φ : ℕ → ℕ → ℕ} {κ : ℕ → ℕ} (compares : Compares φ κ) where
   -- Both sides are d more than those of another.
-  pub same : (d : ℕ) {m k m′ k′ : ℕ} → m ≡ d + m′ → k ≡ d + k′ → φ m k ≡ φ m′ k′
-  same d {m′ = m′} {k′ = k′} e e′ = rw (e, e′) (compares .shift d m′ k′)
+  pub shifted : (d : ℕ) {m k m′ k′ : ℕ} → m ≡ d + m′ → k ≡ d + k′ → φ m k ≡ φ m′ k′
+  shifted d {m′ = m′} {k′ = k′} e e′ = rw (e, e′) (compares .shift d m′ k′)
 
   -- The first side is always less.
   none : (n : ℕ) (f g : List ℕ → List ℕ → ℕ) → ((s t : List ℕ) → IsPosition n s → IsPosition n t → f s t < g s t)
@@ -58,6 +58,16 @@ module _ {φ : ℕ → ℕ → ℕ} {κ : ℕ → ℕ} (compares : Compares φ �
         exchanged = λ {a} {b} h. both-none (λ s t. φ (on a s + on b t) (on b s + on a t)) ∙ rw (on-none a, on-none b);
       }
 
+  -- A comparison whose first side is d more, turned round.
+  turned : (n i j i′ j′ d : ℕ) → i < 3 → j < 3 → i′ < 3 → j′ < 3
+      → both n (λ s t. φ (on i s + on j t + d) (on i′ s + on j′ t))
+      ≡ κ (9 ^ n * d) + both n (λ s t. φ (on i′ s + on j′ t) (on i s + on j t + d))
+  turned n i j i′ j′ d hi hj hi′ hj′ =
+      let sides : both n (λ s t. on i′ s + on j′ t + 0) ≡ both n (λ s t. on i′ s + on j′ t) =
+      both-cong n _ _ (λ s t hs ht. omega arith) in
+      compares .turn n (9 ^ n * d) (λ s t. on i s + on j t + d) (λ s t. on i′ s + on j′ t)
+      (omega (arith, both-on n i j d hi hj, both-on n i′ j′ 0 hi′ hj′))
+
   module _ {n u w : ℕ} (alike : Alike φ n u w) {a b c : ℕ} (h : Three a b c) where
     -- A part in which both sides are d more than those of a comparison of the smaller discs is that comparison ..
     smaller : (f g : List ℕ → List ℕ → ℕ) (i j d : ℕ) (f′ g′ : List ℕ → List ℕ → ℕ)
@@ -66,7 +76,7 @@ module _ {φ : ℕ → ℕ → ℕ} {κ : ℕ → ℕ} (compares : Compares φ �
         → part φ n f g i j ≡ both n (λ s t. φ (f′ s t) (g′ s t))
     smaller f g i j d f′ g′ e =
         both-cong n (λ s t. φ (f (withLargest i s) (withLargest j t)) (g (withLargest i s) (withLargest j t))) (λ s t. φ (f′ s t) (g′ s t))
-        (λ s t hs ht. let (m, k) = e s t (lengths-with-each n h s hs) (lengths-with-each n h t ht) in same d m k)
+        (λ s t hs ht. let (m, k) = e s t (lengths-with-each n h s hs) (lengths-with-each n h t ht) in shifted d m k)
 
     -- .. and one in which the first side is less adds nothing.
     nothing : (f g : List ℕ → List ℕ → ℕ) (i j : ℕ)
@@ -101,16 +111,6 @@ module _ {φ : ℕ → ℕ → ℕ} {κ : ℕ → ℕ} (compares : Compares φ �
           nothing f g c c (λ s t ls lt. omega arith),
         )
 
-    -- A comparison whose first side is d more, turned round.
-    turned : (i j i′ j′ d : ℕ) → i < 3 → j < 3 → i′ < 3 → j′ < 3
-        → both n (λ s t. φ (on i s + on j t + d) (on i′ s + on j′ t))
-        ≡ κ (9 ^ n * d) + both n (λ s t. φ (on i′ s + on j′ t) (on i s + on j t + d))
-    turned i j i′ j′ d hi hj hi′ hj′ =
-        let level : both n (λ s t. on i′ s + on j′ t + 0) ≡ both n (λ s t. on i′ s + on j′ t) =
-        both-cong n _ _ (λ s t hs ht. omega arith) in
-        compares .turn n (9 ^ n * d) (λ s t. on i s + on j t + d) (λ s t. on i′ s + on j′ t)
-        (omega (arith, both-on n i j d hi hj, both-on n i′ j′ 0 hi′ hj′))
-
     -- The exchange of n + 1 discs: three parts are exchanges, two crossings, two crossings turned round; in one the second side is always less,
     -- and one adds nothing.
     exchanged-next : exchange φ (suc n) a b ≡ 3 * w + 4 * u + (κ (9 ^ n * (2 * 2 ^ n)) + 2 * κ (9 ^ n * 2 ^ n))
@@ -135,11 +135,11 @@ module _ {φ : ℕ → ℕ → ℕ} {κ : ℕ → ℕ} (compares : Compares φ �
           c-c ∙ alike .exchanged (three-swap h),
           a-c ∙ alike .crossed (three-turn h),
           c-b ∙ alike .crossed (three-turn (three-turn h)),
-          b-c ∙ turned c a b b (2 ^ n) (h .third) (h .first) (h .second) (h .second),
+          b-c ∙ turned n c a b b (2 ^ n) (h .third) (h .first) (h .second) (h .second),
           alike .crossed (three-flip h),
-          c-a ∙ turned b c a a (2 ^ n) (h .second) (h .third) (h .first) (h .first),
+          c-a ∙ turned n b c a a (2 ^ n) (h .second) (h .third) (h .first) (h .first),
           alike .crossed (three-swap (three-turn h)),
-          b-a ∙ turned c c b a (2 * 2 ^ n) (h .third) (h .third) (h .second) (h .first),
+          b-a ∙ turned n c c b a (2 * 2 ^ n) (h .third) (h .third) (h .second) (h .first),
           nothing f g a b (λ s t ls lt. omega arith),
         )
 

@@ -1,5 +1,5 @@
 -- The sum of the fewest moves over all ordered pairs, by Hinz's recurrence.
-use Prim.Native.Nat.{ℕ, zero, suc, _+_, _-_, _*_, _^_, _<_, min}
+use Prim.Native.Nat.{ℕ, zero, suc, _+_, _-_, _*_, _^_, _≤_, _<_, min}
 use mathlib.Core.List.{List, [], _∷_}
 use mathlib.Core.Path.{_≡_, _∙_, refl, sym, ap}
 use native.Mathlib.Nat.{mul-add, mul-left-comm}
@@ -14,10 +14,10 @@ use Rattle.plan.proofs.Three.{pegs}
 use Rattle.averages.specs.Hinz.{u, sumBy}
 use Rattle.averages.specs.Positions.{IsPosition, withLargest}
 use Rattle.averages.specs.Totals.{fewestSum}
-use Rattle.averages.proofs.Gathers.{on, front-on, gatherSum, gather-sum, both-on}
+use Rattle.averages.proofs.Gathers.{on, front-on, gatherSum, gathers-total, both-on}
 use Rattle.averages.proofs.Pairs.{both, sum-pairs, both-none, both-add, both-cong, both-largest}
 use Rattle.averages.proofs.Positions.{more-position}
-use Rattle.averages.proofs.Powers.{power-times, three-six, in-sum}
+use Rattle.averages.proofs.Powers.{power-times, in-sum}
 use Rattle.averages.proofs.Recurrences.{margin-alike}
 
 -- The fewest moves between two positions of n discs are their distance.
@@ -54,7 +54,7 @@ away-sum n {a} {b} {c} h =
 -- What all one-move plans of a disc more add up to (002, (8)).
 one-moves : (n : ℕ) → 6 * (2 * (3 ^ n * gatherSum n) + 9 ^ n) ≡ 2 * 9 ^ n * (2 ^ (n + 2) - 1)
 one-moves n =
-    let gathers = ap (λ (m : ℕ). 3 ^ n * m) (gather-sum n) in
+    let gathers = ap (λ (m : ℕ). 3 ^ n * m) (gathers-total n) in
     omega (
       arith,
       mul-add (3 ^ n) (3 * gatherSum n) (2 * 3 ^ n),
@@ -62,7 +62,7 @@ one-moves n =
       mul-left-comm (3 ^ n) 2 (3 ^ n),
       mul-left-comm (3 ^ n) 2 (6 ^ n),
       power-times 3 3 n,
-      three-six n,
+      power-times 3 6 n,
       in-sum n,
     )
 
@@ -75,6 +75,10 @@ sum-next n =
     (λ i hi. both-cong n _ _ (λ s t hs ht. fewest-home hi hs ht))
     (λ a b c h. omega (arith, away-sum n h)) in
     omega (arith, away-sum n pegs, one-moves n)
+
+-- The one-move plans are at least what is saved.
+pub saved-less : (n : ℕ) → 6 * u n ≤ 2 * 9 ^ n * (2 ^ (n + 2) - 1)
+saved-less n = omega (arith, away-sum n pegs, one-moves n)
 
 -- So the sum over all ordered pairs is that of the recurrences.
 both-sum : (n : ℕ) → both n fewest ≡ sumBy n

@@ -108,15 +108,16 @@ over-three (suc n) {a} {b} {c} h =
       pow-succ' 6 n,
     )
 
--- It is the same for every peg.
+-- What they take to peg 0 ..
 pub gatherSum : ℕ → ℕ
 gatherSum n = over n (on 0)
 
-pub gather-sum : (n : ℕ) → 3 * gatherSum n + 2 * 3 ^ n ≡ 2 * 6 ^ n
+pub gathers-total : (n : ℕ) → 3 * gatherSum n + 2 * 3 ^ n ≡ 2 * 6 ^ n
 unfolding gatherSum
-gather-sum n = over-three n pegs
+gathers-total n = over-three n pegs
 
-pub over-on : (n j : ℕ) → j < 3 → over n (on j) ≡ gatherSum n
+-- .. is what they take to every peg.
+over-on : (n j : ℕ) → j < 3 → over n (on j) ≡ gatherSum n
 unfolding gatherSum
 over-on n =
     each-peg (λ j. over n (on j) ≡ over n (on 0)) pegs

@@ -8,7 +8,7 @@ use Rattle.plan.specs.Inner.Three.{Three}
 use Rattle.plan.proofs.Three.{pegs, three-swap, three-turn, three-flip}
 use Rattle.averages.specs.Positions.{IsPosition, withLargest, positions, pairs}
 use Rattle.averages.specs.Totals.{sumOver}
-use Rattle.averages.proofs.Positions.{over, over-none, over-pegs, over-cong, over-add, over-const, over-times, over-listed}
+use Rattle.averages.proofs.Positions.{over, over-none, over-pegs, over-cong, over-add, over-const, over-times}
 use Rattle.averages.proofs.Powers.{power-times}
 use Rattle.averages.proofs.Sums.{sum-product}
 
@@ -18,10 +18,8 @@ both n f = over n (λ s. over n (f s))
 
 -- It is the sum over the list of them.
 pub sum-pairs : (n : ℕ) (f : List ℕ × List ℕ → ℕ) → sumOver f (pairs n) ≡ both n (λ s t. f (s, t))
-sum-pairs n f =
-    sum-product f (positions n) (positions n)
-    ∙ over-listed n (λ s. sumOver (λ t. f (s, t)) (positions n))
-    ∙ over-cong n (λ s. sumOver (λ t. f (s, t)) (positions n)) (λ s. over n (λ t. f (s, t))) (λ s hs. over-listed n (λ t. f (s, t)))
+unfolding over
+sum-pairs n f = sum-product f (positions n) (positions n)
 
 -- Of no discs there is one pair.
 pub both-none : (f : List ℕ → List ℕ → ℕ) → both 0 f ≡ f [] []
@@ -52,15 +50,16 @@ both-const n k =
     both-start n (λ s. k)
     ∙ ap (λ (m : ℕ). 3 ^ n * m) (over-const n k)
     ∙ sym (mul-assoc (3 ^ n) (3 ^ n) k)
-    ∙ ap (λ (m : ℕ). m * k) (sym (power-times 3 3 n))
+    ∙ ap (λ (m : ℕ). m * k) (power-times 3 3 n)
 
--- The nine sums of a disc more on each side, the start's disc on i.
+-- Of a disc more on each side, the three sums in which the start's disc is on i.
 abbrev pub row : ℕ → (List ℕ → List ℕ → ℕ) → ℕ → ℕ → ℕ → ℕ → ℕ
 row n f a b c i =
     both n (λ s t. f (withLargest i s) (withLargest a t))
     + both n (λ s t. f (withLargest i s) (withLargest b t))
     + both n (λ s t. f (withLargest i s) (withLargest c t))
 
+-- All nine of them.
 pub both-pegs : (n : ℕ) (f : List ℕ → List ℕ → ℕ) {a b c : ℕ} → Three a b c
     → both (suc n) f ≡ row n f a b c a + row n f a b c b + row n f a b c c
 both-pegs n f {a} {b} {c} h =

@@ -10,21 +10,16 @@ use Rattle.plan.specs.Inner.Three.{Three}
 use Rattle.plan.proofs.Three.{three-sum}
 use Rattle.averages.specs.Positions.{IsPosition, withLargest, positions}
 use Rattle.averages.specs.Totals.{sumOver}
-use Rattle.averages.proofs.Sums.{sum-append, sum-map, sum-none, sum-more}
+use Rattle.averages.proofs.Sums.{sum-append, sum-map}
 
 -- The sum of f over all positions of n discs.
-pub over : ℕ → (List ℕ → ℕ) → ℕ
+unfoldable pub over : ℕ → (List ℕ → ℕ) → ℕ
 over n f = sumOver f (positions n)
-
--- It is the sum over the list of them.
-pub over-listed : (n : ℕ) (f : List ℕ → ℕ) → sumOver f (positions n) ≡ over n f
-unfolding over
-over-listed n f = refl
 
 -- Of no discs there is one position.
 pub over-none : (f : List ℕ → ℕ) → over 0 f ≡ f []
-unfolding over positions
-over-none f = omega (arith, sum-more f [] [], sum-none f)
+unfolding over positions sumOver
+over-none f = omega arith
 
 -- A disc more, on each of the three pegs.
 over-more : (n : ℕ) (f : List ℕ → ℕ)

@@ -10,7 +10,7 @@ use lib.Dec.{eqb}
 use Rattle.averages.specs.Hinz.{u, v, x, y}
 use Rattle.averages.proofs.Crossings.{Compares, Alike, alike-none, alike-next}
 use Rattle.averages.proofs.Pairs.{both, both-add, both-cong}
-use Rattle.averages.proofs.Powers.{fifth, six-fifths, a-fifth, fifth-next, nine-two, eighteen-fifths, in-u, in-v}
+use Rattle.averages.proofs.Powers.{fifth, fifths, a-fifth, fifth-next, power-times, eighteen-fifths, in-u, in-v}
 
 -- By how much m is more than k.
 margin : Compares _-_ (λ e. e)
@@ -36,6 +36,7 @@ equal-comm m k =
       | no l ↦ rw (ne-eqb m k l, ne-eqb k m (omega arith))
     ]
 
+-- So equal numbers are compared as the margin is, and nothing is more one way than the other.
 pub equality : Compares equal (λ e. 0)
 unfolding equal
 equality =
@@ -49,36 +50,37 @@ equality =
       turn = λ n e f g h. both-cong n _ _ (λ s t hs ht. equal-comm (f s t) (g s t)) ∙ sym (zero-add _);
     }
 
--- u, and w = 2 v + (3 ^ n + 1) (6 ^ n − 1) / 5 beside it.
-abbrev w : ℕ → ℕ
-w n = 2 * v n + (3 ^ n + 1) * (6 ^ n - 1) / 5
+-- Beside u stands 2 v + (3 ^ n + 1) (6 ^ n − 1) / 5, the sum of the exchanges.
+abbrev exchanges : ℕ → ℕ
+exchanges n = 2 * v n + (3 ^ n + 1) * (6 ^ n - 1) / 5
 
-u-next : (n : ℕ) → 2 * u n + w n ≡ u (suc n)
+u-next : (n : ℕ) → 2 * u n + exchanges n ≡ u (suc n)
 unfolding u
 u-next n = omega arith
 
-w-next : (n : ℕ) → 3 * w n + 4 * u n + (9 ^ n * (2 * 2 ^ n) + 2 * (9 ^ n * 2 ^ n)) ≡ w (suc n)
+v-next : (n : ℕ) → 3 * exchanges n + 4 * u n + (9 ^ n * (2 * 2 ^ n) + 2 * (9 ^ n * 2 ^ n)) ≡ exchanges (suc n)
 unfolding v fifth
-w-next n =
+v-next n =
     omega (
       arith,
       in-u n,
       in-u (suc n),
       in-v n,
       a-fifth n,
-      six-fifths n,
+      fifths n,
       fifth-next n,
       eighteen-fifths n,
-      nine-two n,
+      power-times 9 2 n,
       mul-left-comm (9 ^ n) 2 (2 ^ n),
     )
 
-pub margin-alike : (n : ℕ) → Alike _-_ n (u n) (w n)
+-- By how much the one-move plans are longer, added up, is u.
+pub margin-alike : (n : ℕ) → Alike _-_ n (u n) (exchanges n)
 unfolding u v
 margin-alike zero = alike-none margin
-margin-alike (suc n) = rw (u-next n, w-next n) at (alike-next margin (margin-alike n))
+margin-alike (suc n) = rw (u-next n, v-next n) at (alike-next margin (margin-alike n))
 
--- x, and 2 y + 1 beside it.
+-- Beside x stands 2 y + 1.
 x-next : (n : ℕ) → 2 * x n + (2 * y n + 1) ≡ x (suc n)
 unfolding x
 x-next n = omega arith
@@ -87,6 +89,7 @@ y-next : (n : ℕ) → 3 * (2 * y n + 1) + 4 * x n + 0 ≡ 2 * y (suc n) + 1
 unfolding y
 y-next n = omega arith
 
+-- How often the two plans are equally long is x.
 pub equal-alike : (n : ℕ) → Alike equal n (x n) (2 * y n + 1)
 unfolding x y equal
 equal-alike zero = alike-none equality

@@ -11,13 +11,14 @@ use Rattle.averages.specs.Answer.{totalsLimit, totalsOf, totalsAnswer}
 use Rattle.averages.specs.Faults.{totalsFaults}
 use Rattle.averages.specs.Hinz.{u, v, x, y, sumBy, tiesBy}
 use Rattle.averages.specs.Positions.{pairs}
-use Rattle.averages.specs.Request10.{Lists, Request10, Recurrences, Figures}
-use Rattle.averages.specs.Totals.{fewestSum}
-use Rattle.averages.proofs.Calls.{totals-accepts, totals-answered}
-use Rattle.averages.proofs.FewestSum.{sum-hinz}
-use Rattle.averages.proofs.Levels.{level-fits}
+use Rattle.averages.specs.Request10.{Lists, Request10, Recurrences, GivenTotals}
+use Rattle.averages.specs.Totals.{fewestSum, tieOf, tieCount}
+use Rattle.averages.proofs.Calls.{totals-accepts}
+use Rattle.averages.proofs.FewestSum.{sum-hinz, saved-less}
+use Rattle.averages.proofs.TermsFit.{terms-fit}
 use Rattle.averages.proofs.Listing.{pairs-listed}
 use Rattle.averages.proofs.Pairs.{sum-pairs, both-const}
+use Rattle.averages.proofs.Powers.{wholes}
 use Rattle.averages.proofs.Sums.{sum-ones, sum-perm}
 use Rattle.averages.proofs.TieCount.{ties-hinz}
 use Rattle.averages.proofs.TiedPairs.{tiedPairs, ties-listed, ties-kept}
@@ -32,7 +33,20 @@ lists-perm a b =
 pairs-many : (n : ℕ) → length (pairs n) ≡ 9 ^ n
 pairs-many n = omega (arith, sum-ones (pairs n), sum-pairs n (λ c. 1), both-const n 1)
 
--- All of it together.
+-- What holds of every n.
+pub recurrences : (n : ℕ) → Recurrences n
+unfolding fewestSum tieCount
+recurrences n =
+    record {
+      listed = pairs-listed n;
+      many = pairs-many n;
+      sum = λ l h. sum-perm (λ c. fewest (c .0) (c .1)) (lists-perm h (pairs-listed n)) ∙ sum-hinz n;
+      ties = λ l h. sum-perm (λ c. tieOf (c .0) (c .1)) (lists-perm h (pairs-listed n)) ∙ ties-hinz n;
+      whole = wholes n;
+      above = omega (arith, saved-less n);
+    }
+
+-- What holds of every answer.
 pub request-10 : (n : ℕ) → Faultless (totalsFaults n) → Request10 n
 unfolding fewestSum
 request-10 n none =
@@ -41,31 +55,26 @@ request-10 n none =
     record {
       totals = totalsOf n;
       answered = totals-accepts n few;
-      listed = pairs-listed n;
-      many = pairs-many n;
       sum = λ l h. sum-perm (λ c. fewest (c .0) (c .1)) (lists-perm (pairs-listed n) h);
-      tied = (tiedPairs n, tied);
       ties = λ l h. ties-kept n ∙ sym (sum-ones (tiedPairs n)) ∙ sum-perm (λ c. 1) (lists-perm tied h) ∙ sum-ones l;
-      fits = λ k h. level-fits k (omega arith);
+      tied = (tiedPairs n, tied);
+      hinz = recurrences n;
+      fits = λ k h. terms-fit k (omega arith);
     }
 
--- For all n.
-pub recurrences : (n : ℕ) → Recurrences n
-recurrences n = record { sum = sum-hinz n; ties = ties-hinz n }
-
--- The documents' figures are those that the recurrences give.
+-- The figures that are given are those of the recurrences.
 totals-by : (n : ℕ) → n ≤ totalsLimit → totalsAnswer n ≡ answer (record { sum = sumBy n; ties = tiesBy n })
 totals-by n h = totals-accepts n h ∙ rw (sum-hinz n, ties-hinz n)
 
-pub figures : Figures
+pub given-totals : GivenTotals
 unfolding sumBy tiesBy u v x y
-figures =
+given-totals =
     record {
       none = totals-by 0 (omega arith);
       one = totals-by 1 (omega arith);
       two = totals-by 2 (omega arith);
       three = totals-by 3 (omega arith);
       four = totals-by 4 (omega arith);
-      fifteen = λ t e. totals-answered 15 e .sum ∙ sum-hinz 15;
+      fifteen = totals-by 15 (omega arith);
       sixteen = unfold totalsAnswer in refl;
     }

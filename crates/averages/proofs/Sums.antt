@@ -8,21 +8,11 @@ use native.Mathlib.Omega.{arith}
 use lib.ListN.{length}
 use Rattle.averages.specs.Totals.{sumOver}
 
--- Over no entries it is 0, and each entry adds what f makes of it.
-module _ {A : Type 0} (f : A → ℕ) where
-  pub sum-none : sumOver f [] ≡ 0
-  unfolding sumOver
-  sum-none = refl
-
-  pub sum-more : (a : A) (l : List A) → sumOver f (a ∷ l) ≡ f a + sumOver f l
-  unfolding sumOver
-  sum-more a l = refl
-
-  -- Over two lists one after the other.
-  pub sum-append : (l m : List A) → sumOver f (l ++ m) ≡ sumOver f l + sumOver f m
-  unfolding sumOver
-  sum-append [] m = omega arith
-  sum-append (a ∷ l) m = omega (arith, sum-append l m)
+-- Over two lists one after the other.
+pub sum-append : {A : Type 0} (f : A → ℕ) (l m : List A) → sumOver f (l ++ m) ≡ sumOver f l + sumOver f m
+unfolding sumOver
+sum-append f [] m = omega arith
+sum-append f (a ∷ l) m = omega (arith, sum-append f l m)
 
 -- Over the entries that g makes of those of a list.
 pub sum-map : {A B : Type 0} (f : B → ℕ) (g : A → B) (l : List A) → sumOver f (map g l) ≡ sumOver (λ a. f (g a)) l

@@ -17,8 +17,8 @@ use Rattle.plan.proofs.Distance.{direct-append, detour-append}
 use Rattle.plan.proofs.Three.{three-third}
 use Rattle.averages.specs.Hinz.{x, tiesBy}
 use Rattle.averages.specs.Positions.{IsPosition, withLargest}
-use Rattle.averages.specs.Totals.{isTie, tieCount}
-use Rattle.averages.proofs.Crossings.{same}
+use Rattle.averages.specs.Totals.{isTie, tieOf, tieCount}
+use Rattle.averages.proofs.Crossings.{shifted}
 use Rattle.averages.proofs.Gathers.{on, front-on}
 use Rattle.averages.proofs.Pairs.{both, sum-pairs, both-none, both-cong, both-largest}
 use Rattle.averages.proofs.Positions.{none-position, more-position}
@@ -61,7 +61,7 @@ tie-by m p q (suc k) =
       | no n ↦ rw (ne-eqb (p k) (q k) n) (tie-way (lengthsOf p q k))
     ]
 
-tie-plan : (s t : List ℕ) → isTie (planOf s t .way) ≡ tie (peg s) (peg t) (length s)
+tie-plan : (s t : List ℕ) → tieOf s t ≡ tie (peg s) (peg t) (length s)
 unfolding planOf
 tie-plan s t = tie-by (length s) (peg s) (peg t) (length s)
 
@@ -78,10 +78,7 @@ tie-append p q zs ws (suc k) hp hq =
       tie-append p q zs ws k (omega arith) (omega arith),
     )
 
--- Whether the plan between two positions is a tie.
-abbrev tieOf : List ℕ → List ℕ → ℕ
-tieOf s t = isTie (planOf s t .way)
-
+-- So it is with the plan between two positions.
 tie-at : {n : ℕ} {s : List ℕ} (t : List ℕ) → IsPosition n s → tieOf s t ≡ tie (peg s) (peg t) n
 tie-at {n} {s} t hs = rw (← hs .size) (tie-plan s t)
 
@@ -110,7 +107,7 @@ tie-away {n} {a} {b} {c} {s} {t} h hs ht =
       front-on a b hs,
       front-on b a ht,
     )
-    (same equality 1 (omega arith) (omega arith))
+    (shifted equality 1 (omega arith) (omega arith))
 
 -- A disc more.
 ties-next : (n : ℕ) → both (suc n) tieOf ≡ 3 * both n tieOf + 6 * x n
@@ -127,4 +124,4 @@ both-ties (suc n) = rw (← both-ties n) (ties-next n)
 
 pub ties-hinz : (n : ℕ) → tieCount n ≡ tiesBy n
 unfolding tieCount
-ties-hinz n = sum-pairs n (λ c. isTie (planOf (c .0) (c .1) .way)) ∙ both-ties n
+ties-hinz n = sum-pairs n (λ c. tieOf (c .0) (c .1)) ∙ both-ties n

@@ -15,16 +15,17 @@ use Rattle.plan.specs.declared.answer.Way.the-variants.{Still, Direct, Detour, 
 use Rattle.plan.proofs.Calls.{plan-joined}
 use Rattle.averages.specs.Positions.{IsPosition, pairs}
 use Rattle.averages.specs.Request10.{Lists, Ties}
-use Rattle.averages.specs.Totals.{sumOver, isTie, tieCount}
+use Rattle.averages.specs.Totals.{sumOver, isTie, tieOf, tieCount}
 use Rattle.averages.proofs.Listing.{pairs-listed}
 
--- A pair that is counted.
+-- What a pair adds to the count, and whether it is counted.
 abbrev counted : List ℕ × List ℕ → ℕ
-counted c = isTie (planOf (c .0) (c .1) .way)
+counted c = tieOf (c .0) (c .1)
 
 abbrev isCounted : (c : List ℕ × List ℕ) → Dec (counted c ≡ 1)
 isCounted c = ℕ-discrete (counted c) 1
 
+-- The pairs that are.
 pub tiedPairs : ℕ → List (List ℕ × List ℕ)
 tiedPairs n = filter isCounted (pairs n)
 

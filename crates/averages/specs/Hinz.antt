@@ -1,4 +1,4 @@
--- Hinz's recurrences (002, section 1.3.2). The differences in them are never cut off at 0, and the quotients are whole.
+-- Hinz's recurrences (002, section 1.3.2). That their quotients are whole and no difference is below 0 is said in Request10: `Recurrences`.
 use Prim.Native.Nat.{ℕ, zero, suc, _+_, _-_, _*_, _/_, _^_}
 
 -- u and v (002, (9)).

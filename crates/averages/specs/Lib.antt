@@ -8,7 +8,7 @@ pub mod Answer
 pub mod Faults
 -- Hinz's recurrences, and the numbers on the way.
 pub mod Hinz
-pub mod Level
+pub mod Terms
 -- What request 10 asks of the call.
 pub mod Request10
 -- What our own functions promise each other.

@@ -1,5 +1,5 @@
 -- Request 10 (02, CR 10), said of what Totals answers.
-use Prim.Native.Nat.{ℕ, _^_, _<_}
+use Prim.Native.Nat.{ℕ, _+_, _-_, _*_, _%_, _^_, _≤_, _<_}
 use mathlib.Core.List.{List, _++_, List·Mem, List·Nodup}
 use mathlib.Core.Logic.{_↔_}
 use mathlib.Core.Path.{_≡_}
@@ -10,10 +10,10 @@ use Rattle.plan.specs.Answer.{planAnswer}
 use Rattle.plan.specs.Plan.{routes}
 use Rattle.plan.specs.declared.answer.Plan.{Plan}
 use Rattle.averages.specs.Answer.{totalsAnswer}
-use Rattle.averages.specs.Hinz.{sumBy, tiesBy}
-use Rattle.averages.specs.Level.{levelOf, Fits}
+use Rattle.averages.specs.Hinz.{u, sumBy, tiesBy}
 use Rattle.averages.specs.Positions.{IsPosition, pairs}
-use Rattle.averages.specs.Totals.{sumOver, fewestSum, tieCount}
+use Rattle.averages.specs.Terms.{termsOf, Fits}
+use Rattle.averages.specs.Totals.{sumOver, tieOf}
 use Rattle.averages.specs.declared.answer.Totals.{Totals}
 
 -- l lists the ordered pairs of positions of n discs for which P holds: these and no others, each once.
@@ -29,30 +29,37 @@ Any p q = Unit {0}
 abbrev pub Ties : List ℕ → List ℕ → Type 0
 Ties p q = (r : Plan) × (planAnswer (p ++ q) ≡ answer r) × (routes r ≡ 2)
 
+-- What holds of every n.
+pub record Recurrences (n : ℕ) : Type 0 where
+  -- All ordered pairs can be listed, and there are 9 ^ n.
+  pub listed : Lists n Any (pairs n)
+  pub many : length (pairs n) ≡ 9 ^ n
+  -- Over any such list, the fewest moves and the plans that are a tie add up to the numbers of Hinz's recurrences.
+  pub sum : (l : List (List ℕ × List ℕ)) → Lists n Any l → sumOver (λ c. fewest (c .0) (c .1)) l ≡ sumBy n
+  pub ties : (l : List (List ℕ × List ℕ)) → Lists n Any l → sumOver (λ c. tieOf (c .0) (c .1)) l ≡ tiesBy n
+  -- In these every quotient is whole, and no difference is below 0.
+  pub whole : ((3 ^ n + 1) * (6 ^ n - 1) % 5 ≡ 0) × ((6 ^ n - 1) % 5 ≡ 0) × (6 ^ n * (3 ^ n - 1) % 2 ≡ 0)
+  pub above : 6 * u n ≤ 3 * sumBy n + 2 * 9 ^ n * (2 ^ (n + 2) - 1)
+
+-- What holds of what Totals answers for n discs.
 pub record Request10 (n : ℕ) : Type 0 where
   pub totals : Totals
   pub answered : totalsAnswer n ≡ answer totals
-  -- All ordered pairs can be listed, and there are 9 ^ n; over any such list the fewest moves add up to the sum.
-  pub listed : Lists n Any (pairs n)
-  pub many : length (pairs n) ≡ 9 ^ n
+  -- The sum is that of the fewest moves, over any list of all ordered pairs.
   pub sum : (l : List (List ℕ × List ℕ)) → Lists n Any l → totals .sum ≡ sumOver (λ c. fewest (c .0) (c .1)) l
-  -- So can those that tie, and any such list is as long as the number of ties.
-  pub tied : (l : List (List ℕ × List ℕ)) × Lists n Ties l
+  -- The ties are as many as any list of the pairs that tie is long; there is one.
   pub ties : (l : List (List ℕ × List ℕ)) → Lists n Ties l → totals .ties ≡ length l
-  -- Every number on the way fits 64 bits.
-  pub fits : (k : ℕ) → k < n → Fits (levelOf k)
+  pub tied : (l : List (List ℕ × List ℕ)) × Lists n Ties l
+  -- All pairs, and Hinz's recurrences; every number on the way fits 64 bits.
+  pub hinz : Recurrences n
+  pub fits : (k : ℕ) → k < n → Fits (termsOf k)
 
--- Of every n, the sum and the count that are answered up to 15 discs are those of Hinz's recurrences.
-pub record Recurrences (n : ℕ) : Type 0 where
-  pub sum : fewestSum n ≡ sumBy n
-  pub ties : tieCount n ≡ tiesBy n
-
--- The documents' figures.
-pub record Figures : Type 0 where
+-- The request's figures, of 0 to 3 discs; besides, those of 4 and 15, the last size, and that 16 discs are refused.
+pub record GivenTotals : Type 0 where
   pub none : totalsAnswer 0 ≡ answer (record { sum = 0; ties = 0 })
   pub one : totalsAnswer 1 ≡ answer (record { sum = 6; ties = 0 })
   pub two : totalsAnswer 2 ≡ answer (record { sum = 144; ties = 6 })
   pub three : totalsAnswer 3 ≡ answer (record { sum = 2838; ties = 48 })
   pub four : totalsAnswer 4 ≡ answer (record { sum = 53160; ties = 282 })
-  pub fifteen : (t : Totals) → totalsAnswer 15 ≡ answer t → t .sum ≡ 3552399764155943718
+  pub fifteen : totalsAnswer 15 ≡ answer (record { sum = 3552399764155943718; ties = 7157423256 })
   pub sixteen : totalsAnswer 16 ≡ refused 20

@@ -23,6 +23,10 @@ isTie (Direct l) = 0
 isTie (Detour l) = 0
 isTie (Tie l) = 1
 
--- How many ordered pairs have a plan that is a tie, pairs alike at disc n counted too.
+-- Whether the plan from p to q is a tie.
+abbrev pub tieOf : List ℕ → List ℕ → ℕ
+tieOf p q = isTie (planOf p q .way)
+
+-- How many ordered pairs have such a plan, pairs alike at disc n counted too.
 unfoldable pub tieCount : ℕ → ℕ
-tieCount n = sumOver (λ c. isTie (planOf (c .0) (c .1) .way)) (pairs n)
+tieCount n = sumOver (λ c. tieOf (c .0) (c .1)) (pairs n)

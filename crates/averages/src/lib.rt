@@ -1,13 +1,13 @@
-// Whole-board averages (document 02, CR 10): the fewest moves between all ordered pairs of positions, added up, and the pairs that tie.
+// Whole-board averages (document 02, CR 10): the fewest moves between all ordered pairs of positions, added up, and how many of them tie.
 mod answer;
-mod level;
+mod terms;
 
 pub use answer::Totalled;
 pub use answer::Totals;
 ghost use mathlib.Core.Path.{_≡_};
 ghost use Rattle.averages.specs.Answer.{totalledReply, totalsAnswer};
 use board::Refusal;
-use level::Level;
+use terms::Terms;
 
 // The most discs of a board that is totalled.
 pub const TOTALS_LIMIT: u64 = 15;
@@ -19,5 +19,5 @@ pub fn totals(n: u64) -> Totalled
     if TOTALS_LIMIT < n {
         return Totalled::Refused(Refusal::TooLargeToTotal);
     }
-    Totalled::Totals(Level::of(n).totals())
+    Totalled::Totals(Terms::of(n).answered())
 }

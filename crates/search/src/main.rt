@@ -35,12 +35,12 @@ mod wearing;
 
 use show::named;
 use tally::Tally;
-use totalling::with_totals;
+use totalling::compared;
 
 fn main() {
     let mut n = 0;
     while n < 7 {
-        write_line(n, with_totals(pairs::all_pairs(n), n));
+        write_line(n, compared(pairs::all_pairs(n), n));
         n += 1;
     }
 }

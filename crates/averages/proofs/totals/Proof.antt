@@ -1,8 +1,8 @@
--- `averages::totals` meets its contract: the numbers of level n are the sum and the ties of all ordered pairs. Assumes nothing.
+-- `averages::totals` meets its contract: the terms of n discs have the sum and the ties of all ordered pairs. Assumes nothing.
 use borrow.Author.Needs.{needs}
 use borrow.Author.Tests.{lt-ltb, le-ltb}
 use Rattle.averages.specs.Answer.{totalsLimit, totalsAnswer}
-use Rattle.averages.specs.Level.{levelOf}
+use Rattle.averages.specs.Terms.{termsOf}
 use Rattle.averages.proofs.FewestSum.{sum-hinz}
 use Rattle.averages.proofs.TieCount.{ties-hinz}
 use Rattle.averages.proofs.totals.Statement.{statement}
@@ -16,16 +16,16 @@ returns c = rw (lt-ltb totalsLimit (c .before .args .n) (c .if1 .taken))
 of-requires : tie.Need-of-requires
 of-requires c κs = search needs
 
-totals-requires : tie.Need-totals-requires
-totals-requires c κs = search needs
+answered-requires : tie.Need-answered-requires
+answered-requires c κs = search needs
 
 -- The totals.
 returns-2 : tie.Need-returns-2
-unfolding totalsAnswer levelOf
+unfolding totalsAnswer termsOf
 returns-2 c =
     let limited = c .before .before in
     let n = limited .before .args .n in
-    rw (le-ltb totalsLimit n (limited .if1 .left), c .totals .ensures, c .before .of .ensures, sum-hinz n, ties-hinz n)
+    rw (le-ltb totalsLimit n (limited .if1 .left), c .answered .ensures, c .before .of .ensures, sum-hinz n, ties-hinz n)
 
 pub totals-spec : {M : Type 1} → statement M
-totals-spec = tie.close (tie.spec returns of-requires totals-requires returns-2)
+totals-spec = tie.close (tie.spec returns of-requires answered-requires returns-2)

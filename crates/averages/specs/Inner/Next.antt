@@ -1,23 +1,26 @@
--- A level, one disc more, and what is answered of it.
-use Prim.Native.Nat.{_*_}
-use Rattle.averages.specs.Level.{nextU, nextV, nextX, nextY, nextSum, nextTies}
+-- The terms of one disc more, and those that are answered.
+use Prim.Native.Nat.{ℕ, _+_, _-_, _*_}
+use Rattle.averages.specs.Terms.{inSum, nextU, nextV, nextX, nextY, nextTies}
 use Rattle.averages.specs.declared.answer.Totals.{Totals}
-use Rattle.averages.specs.declared.level.Level.{Level}
+use Rattle.averages.specs.declared.terms.Terms.{Terms}
+
+abbrev pub nextSum : Terms → ℕ
+nextSum t = 3 * t .sum + inSum t - 6 * t .u
 
 -- One disc more.
-abbrev pub nextOf : Level → Level
-nextOf l =
+abbrev pub nextOf : Terms → Terms
+nextOf t =
     record {
-      two = 2 * l .two;
-      three = 3 * l .three;
-      u = nextU l;
-      v = nextV l;
-      x = nextX l;
-      y = nextY l;
-      sum = nextSum l;
-      ties = nextTies l;
+      two = 2 * t .two;
+      three = 3 * t .three;
+      u = nextU t;
+      v = nextV t;
+      x = nextX t;
+      y = nextY t;
+      sum = nextSum t;
+      ties = nextTies t;
     }
 
--- The totals among them.
-abbrev pub totalsBy : Level → Totals
-totalsBy l = record { sum = l .sum; ties = l .ties }
+-- Those that are answered.
+abbrev pub totalsIn : Terms → Totals
+totalsIn t = record { sum = t .sum; ties = t .ties }

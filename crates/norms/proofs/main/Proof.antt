@@ -1,5 +1,4 @@
--- `norms::main` is safe and ends. The loop's invariant: `n` is at most the number of lines. The measure is how many are left. Assumes
--- nothing.
+-- `norms::main` is safe and ends. The loop's invariant: `n` is at most 18. The measure is what is left of 18. Assumes nothing.
 use Prim.Native.Nat.{_≤_, _-_}
 use borrow.Author.Needs.{needs}
 use Rattle.norms.proofs.main.Statement.{statement}

@@ -17,8 +17,8 @@ loop-holds c = search needs
 all-pairs-requires : tie.Need-all-pairs-requires Inv-loop μ-loop
 all-pairs-requires c κs = search needs
 
-with-totals-requires : tie.Need-with-totals-requires Inv-loop μ-loop
-with-totals-requires c κs = search needs
+compared-requires : tie.Need-compared-requires Inv-loop μ-loop
+compared-requires c κs = search needs
 
 write-line-requires : tie.Need-write-line-requires Inv-loop μ-loop
 write-line-requires c κs = search needs
@@ -43,7 +43,7 @@ main-spec =
     μ-loop
     loop-holds
     all-pairs-requires
-    with-totals-requires
+    compared-requires
     write-line-requires
     add-n
     loop-less

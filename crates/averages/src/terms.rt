@@ -1,13 +1,13 @@
-// Hinz's recurrences (002, section 1.3.2): the numbers of a board from those of the board with one disc less.
+// Hinz's recurrences (002, section 1.3.2): the terms of a board from those of the board with one disc less.
 ghost use mathlib.Core.Path.{_≡_};
 ghost use Prim.Native.Nat.{_≤_};
 ghost use Rattle.averages.specs.Answer.{totalsLimit};
-ghost use Rattle.averages.specs.Inner.Next.{nextOf, totalsBy};
-ghost use Rattle.averages.specs.Level.{levelOf, nextU, nextV, nextX, nextY, nextSum, nextTies, Fits};
+ghost use Rattle.averages.specs.Inner.Next.{nextSum, nextOf, totalsIn};
+ghost use Rattle.averages.specs.Terms.{termsOf, nextU, nextV, nextX, nextY, nextTies, Fits};
 use crate::answer::Totals;
 
-// What is worked out for k discs: 2^k, 3^k, Hinz's u, v, x and y, the sum of the fewest moves and the number of ties.
-pub struct Level {
+// The terms of k discs: 2^k, 3^k, Hinz's u, v, x and y, the sum of the fewest moves and the number of ties.
+pub struct Terms {
     pub two: u64,
     pub three: u64,
     pub u: u64,
@@ -18,12 +18,12 @@ pub struct Level {
     pub ties: u64,
 }
 
-impl Level {
+impl Terms {
     // No discs.
-    fn none() -> Level
-        ensures { λ r. ⌜ r ≡ levelOf 0 ⌝ }
+    fn none() -> Terms
+        ensures { λ r. ⌜ r ≡ termsOf 0 ⌝ }
     {
-        Level {
+        Terms {
             two: 1,
             three: 1,
             u: 0,
@@ -87,11 +87,11 @@ impl Level {
     }
 
     // One disc more.
-    fn next(self) -> Level
+    fn next(self) -> Terms
         requires { ⌜ Fits self ⌝ }
         ensures { λ r. ⌜ r ≡ nextOf self ⌝ }
     {
-        Level {
+        Terms {
             two: 2 * self.two,
             three: 3 * self.three,
             u: self.next_u(),
@@ -103,9 +103,9 @@ impl Level {
         }
     }
 
-    // The totals among them.
-    pub fn totals(self) -> Totals
-        ensures { λ r. ⌜ r ≡ totalsBy self ⌝ }
+    // Those of them that are answered.
+    pub fn answered(self) -> Totals
+        ensures { λ r. ⌜ r ≡ totalsIn self ⌝ }
     {
         Totals {
             sum: self.sum,
@@ -113,17 +113,17 @@ impl Level {
         }
     }
 
-    // The level of n discs.
-    pub fn of(n: u64) -> Level
+    // The terms of n discs, from those of none up.
+    pub fn of(n: u64) -> Terms
         requires { ⌜ n ≤ totalsLimit ⌝ }
-        ensures { λ r. ⌜ r ≡ levelOf n ⌝ }
+        ensures { λ r. ⌜ r ≡ termsOf n ⌝ }
     {
-        let mut level = Level::none();
+        let mut terms = Terms::none();
         let mut k = 0;
         while k < n {
-            level = level.next();
+            terms = terms.next();
             k += 1;
         }
-        level
+        terms
     }
 }

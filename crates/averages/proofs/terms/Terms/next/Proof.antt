@@ -1,7 +1,7 @@
--- `averages::level::Level::next` meets its contract: each number is that of its recurrence. Assumes nothing.
+-- `averages::terms::Terms::next` meets its contract: each term is that of its recurrence. Assumes nothing.
 use borrow.Author.Needs.{needs}
-use Rattle.averages.proofs.level.Level.next.Statement.{statement}
-use Rattle.averages.proofs.level.Level.next.Tie as tie
+use Rattle.averages.proofs.terms.Terms.next.Statement.{statement}
+use Rattle.averages.proofs.terms.Terms.next.Tie as tie
 
 mul-t2 : tie.Need-mul-t2
 mul-t2 c = search needs

@@ -1,20 +1,20 @@
--- `averages::level::Level::of` meets its contract. The loop's invariant: the level is that of k discs. The measure is what is left of n.
+-- `averages::terms::Terms::of` meets its contract. The loop's invariant: the terms are those of k discs. The measure is what is left of n.
 -- Assumes nothing.
 use Prim.Native.Nat.{_-_, _≤_}
 use mathlib.Core.Path.{_≡_}
 use native.Mathlib.Numerals.{add-one}
 use native.Mathlib.Omega.{arith}
 use borrow.Author.Needs.{needs}
-use Rattle.averages.specs.Level.{levelOf}
-use Rattle.averages.proofs.Levels.{level-next, level-fits}
-use Rattle.averages.proofs.level.Level.of.Statement.{statement}
-use Rattle.averages.proofs.level.Level.of.Tie as tie
+use Rattle.averages.specs.Terms.{termsOf}
+use Rattle.averages.proofs.TermsFit.{terms-next, terms-fit}
+use Rattle.averages.proofs.terms.Terms.of.Statement.{statement}
+use Rattle.averages.proofs.terms.Terms.of.Tie as tie
 
 abbrev Inv-loop : tie.InvT-loop
-Inv-loop n level₀ k₀ level k = (k ≤ n) × (level ≡ levelOf k)
+Inv-loop n terms₀ k₀ terms k = (k ≤ n) × (terms ≡ termsOf k)
 
 abbrev μ-loop : tie.MeasureT-loop
-μ-loop n level₀ k₀ level k = n - k
+μ-loop n terms₀ k₀ terms k = n - k
 
 none-requires : tie.Need-none-requires Inv-loop μ-loop
 none-requires c κs = search needs
@@ -23,7 +23,7 @@ loop-holds : tie.Need-loop-holds Inv-loop μ-loop
 loop-holds c = search needs
 
 next-requires : tie.Need-next-requires Inv-loop μ-loop
-next-requires c κs = rw (c .before .loop .inv .1) (level-fits (c .before .loop .k) (omega arith))
+next-requires c κs = rw (c .before .loop .inv .1) (terms-fit (c .before .loop .k) (omega arith))
 
 add-k : tie.Need-add-k Inv-loop μ-loop
 add-k c = omega arith
@@ -34,7 +34,7 @@ loop-less c = omega arith
 loop-again : tie.Need-loop-again Inv-loop μ-loop
 loop-again c =
     let at = c .before .before .loop in
-    (omega arith, rw (add-one, ← level-next (at .k), ← at .inv .1) (c .next .ensures))
+    (omega arith, rw (add-one, ← terms-next (at .k), ← at .inv .1) (c .next .ensures))
 
 returns : tie.Need-returns Inv-loop μ-loop
 returns c =
