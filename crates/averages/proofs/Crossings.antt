@@ -11,8 +11,8 @@ use Rattle.averages.specs.Positions.{IsPosition, withLargest}
 use Rattle.averages.proofs.Gathers.{on, on-none, both-on, LengthsWithEach, lengths-with-each}
 use Rattle.averages.proofs.Pairs.{both, both-none, both-cong, both-const, both-pegs}
 
--- φ m k does not change where both numbers are more by as much, and is 0 where m is less. Where, over all pairs, one side is e more than the
--- other, φ is κ e more than with the sides exchanged.
+-- φ m k does not change where both numbers are more by as much, and is 0 where m is less. Where, over all pairs, one side is e more than
+-- the other, φ is κ e more than with the sides exchanged.
 pub record Compares (φ : ℕ → ℕ → ℕ) (κ : ℕ → ℕ) : Type 0 where
   pub shift : (d m k : ℕ) → φ (d + m) (d + k) ≡ φ m k
   pub less : (m k : ℕ) → m < k → φ m k ≡ 0
@@ -68,7 +68,7 @@ module _ {φ : ℕ → ℕ → ℕ} {κ : ℕ → ℕ} (compares : Compares φ �
       compares .turn n (9 ^ n * d) (λ s t. on i s + on j t + d) (λ s t. on i′ s + on j′ t)
       (omega (arith, both-on n i j d hi hj, both-on n i′ j′ 0 hi′ hj′))
 
-  module _ {n u w : ℕ} (alike : Alike φ n u w) {a b c : ℕ} (h : Three a b c) where
+  module _ (n : ℕ) {a b c : ℕ} (h : Three a b c) where
     -- A part in which both sides are d more than those of a comparison of the smaller discs is that comparison ..
     smaller : (f g : List ℕ → List ℕ → ℕ) (i j d : ℕ) (f′ g′ : List ℕ → List ℕ → ℕ)
         → ((s t : List ℕ) → LengthsWithEach n a b c s → LengthsWithEach n a b c t
@@ -87,44 +87,45 @@ module _ {φ : ℕ → ℕ → ℕ} {κ : ℕ → ℕ} (compares : Compares φ �
         none n (λ s t. f (withLargest i s) (withLargest j t)) (λ s t. g (withLargest i s) (withLargest j t))
         (λ s t hs ht. e s t (lengths-with-each n h s hs) (lengths-with-each n h t ht))
 
-    -- The crossing of n + 1 discs: of its nine parts, named by the pegs of the start's and the goal's largest disc, two are crossings and one
-    -- is an exchange.
+  module _ {n u w : ℕ} (alike : Alike φ n u w) {a b c : ℕ} (h : Three a b c) where
+    -- The crossing of n + 1 discs: of its nine parts, named by the pegs of the start's and the goal's largest disc, two are crossings and
+    -- one is an exchange.
     crossed-next : crossing φ (suc n) a b c ≡ 2 * u + w
     crossed-next =
         let f : List ℕ → List ℕ → ℕ = λ s t. on c s + on c t in
         let g : List ℕ → List ℕ → ℕ = λ s t. on b s + on a t + 2 ^ suc n in
         let double = two-pow-succ n in
-        let b-a = smaller f g b a (2 ^ suc n) (λ s t. on a s + on b t) (λ s t. on b s + on a t) (λ s t ls lt. omega arith) in
-        let b-b = smaller f g b b (2 ^ suc n) (λ s t. on a s + on a t) (λ s t. on b s + on c t + 2 ^ n) (λ s t ls lt. omega arith) in
-        let a-a = smaller f g a a (2 ^ suc n) (λ s t. on b s + on b t) (λ s t. on c s + on a t + 2 ^ n) (λ s t ls lt. omega arith) in
+        let b-a = smaller n h f g b a (2 ^ suc n) (λ s t. on a s + on b t) (λ s t. on b s + on a t) (λ s t ls lt. omega arith) in
+        let b-b = smaller n h f g b b (2 ^ suc n) (λ s t. on a s + on a t) (λ s t. on b s + on c t + 2 ^ n) (λ s t ls lt. omega arith) in
+        let a-a = smaller n h f g a a (2 ^ suc n) (λ s t. on b s + on b t) (λ s t. on c s + on a t + 2 ^ n) (λ s t ls lt. omega arith) in
         omega (
           arith,
           both-pegs n (λ s t. φ (f s t) (g s t)) h,
           b-a ∙ alike .exchanged h,
           b-b ∙ alike .crossed (three-swap (three-turn h)),
           a-a ∙ alike .crossed (three-flip h),
-          nothing f g a b (λ s t ls lt. omega arith),
-          nothing f g a c (λ s t ls lt. omega arith),
-          nothing f g b c (λ s t ls lt. omega arith),
-          nothing f g c a (λ s t ls lt. omega arith),
-          nothing f g c b (λ s t ls lt. omega arith),
-          nothing f g c c (λ s t ls lt. omega arith),
+          nothing n h f g a b (λ s t ls lt. omega arith),
+          nothing n h f g a c (λ s t ls lt. omega arith),
+          nothing n h f g b c (λ s t ls lt. omega arith),
+          nothing n h f g c a (λ s t ls lt. omega arith),
+          nothing n h f g c b (λ s t ls lt. omega arith),
+          nothing n h f g c c (λ s t ls lt. omega arith),
         )
 
-    -- The exchange of n + 1 discs: three parts are exchanges, two crossings, two crossings turned round; in one the second side is always less,
-    -- and one adds nothing.
+    -- The exchange of n + 1 discs: three parts are exchanges, two crossings, two crossings turned round; in one the second side is always
+    -- less, and one adds nothing.
     exchanged-next : exchange φ (suc n) a b ≡ 3 * w + 4 * u + (κ (9 ^ n * (2 * 2 ^ n)) + 2 * κ (9 ^ n * 2 ^ n))
     exchanged-next =
         let f : List ℕ → List ℕ → ℕ = λ s t. on a s + on b t in
         let g : List ℕ → List ℕ → ℕ = λ s t. on b s + on a t in
-        let a-a = smaller f g a a (2 ^ n) (λ s t. on a s + on c t) (λ s t. on c s + on a t) (λ s t ls lt. omega arith) in
-        let b-b = smaller f g b b (2 ^ n) (λ s t. on c s + on b t) (λ s t. on b s + on c t) (λ s t ls lt. omega arith) in
-        let c-c = smaller f g c c (2 * 2 ^ n) (λ s t. on b s + on a t) (λ s t. on a s + on b t) (λ s t ls lt. omega arith) in
-        let a-c = smaller f g a c (2 ^ n) (λ s t. on a s + on a t) (λ s t. on c s + on b t + 2 ^ n) (λ s t ls lt. omega arith) in
-        let c-b = smaller f g c b (2 ^ n) (λ s t. on b s + on b t) (λ s t. on a s + on c t + 2 ^ n) (λ s t ls lt. omega arith) in
-        let b-c = smaller f g b c (2 ^ n) (λ s t. on c s + on a t + 2 ^ n) (λ s t. on b s + on b t) (λ s t ls lt. omega arith) in
-        let c-a = smaller f g c a (2 ^ n) (λ s t. on b s + on c t + 2 ^ n) (λ s t. on a s + on a t) (λ s t ls lt. omega arith) in
-        let b-a = smaller f g b a 0 (λ s t. on c s + on c t + 2 * 2 ^ n) (λ s t. on b s + on a t) (λ s t ls lt. omega arith) in
+        let a-a = smaller n h f g a a (2 ^ n) (λ s t. on a s + on c t) (λ s t. on c s + on a t) (λ s t ls lt. omega arith) in
+        let b-b = smaller n h f g b b (2 ^ n) (λ s t. on c s + on b t) (λ s t. on b s + on c t) (λ s t ls lt. omega arith) in
+        let c-c = smaller n h f g c c (2 * 2 ^ n) (λ s t. on b s + on a t) (λ s t. on a s + on b t) (λ s t ls lt. omega arith) in
+        let a-c = smaller n h f g a c (2 ^ n) (λ s t. on a s + on a t) (λ s t. on c s + on b t + 2 ^ n) (λ s t ls lt. omega arith) in
+        let c-b = smaller n h f g c b (2 ^ n) (λ s t. on b s + on b t) (λ s t. on a s + on c t + 2 ^ n) (λ s t ls lt. omega arith) in
+        let b-c = smaller n h f g b c (2 ^ n) (λ s t. on c s + on a t + 2 ^ n) (λ s t. on b s + on b t) (λ s t ls lt. omega arith) in
+        let c-a = smaller n h f g c a (2 ^ n) (λ s t. on b s + on c t + 2 ^ n) (λ s t. on a s + on a t) (λ s t ls lt. omega arith) in
+        let b-a = smaller n h f g b a 0 (λ s t. on c s + on c t + 2 * 2 ^ n) (λ s t. on b s + on a t) (λ s t ls lt. omega arith) in
         let never = none n (λ s t. on b s + on a t) (λ s t. on c s + on c t + 2 * 2 ^ n)
         (λ s t hs ht. omega (arith, lengths-with-each n h s hs, lengths-with-each n h t ht)) in
         omega (
@@ -140,7 +141,7 @@ module _ {φ : ℕ → ℕ → ℕ} {κ : ℕ → ℕ} (compares : Compares φ �
           c-a ∙ turned n b c a a (2 ^ n) (h .second) (h .third) (h .first) (h .first),
           alike .crossed (three-swap (three-turn h)),
           b-a ∙ turned n c c b a (2 * 2 ^ n) (h .third) (h .third) (h .second) (h .first),
-          nothing f g a b (λ s t ls lt. omega arith),
+          nothing n h f g a b (λ s t ls lt. omega arith),
         )
 
   -- A disc more, whichever the pegs are.

@@ -61,9 +61,10 @@ tie-by m p q (suc k) =
       | no n ↦ rw (ne-eqb (p k) (q k) n) (tie-way (lengthsOf p q k))
     ]
 
-tie-plan : (s t : List ℕ) → tieOf s t ≡ tie (peg s) (peg t) (length s)
+-- So is the plan between two positions.
+tie-at : {n : ℕ} {s : List ℕ} (t : List ℕ) → IsPosition n s → tieOf s t ≡ tie (peg s) (peg t) n
 unfolding planOf
-tie-plan s t = tie-by (length s) (peg s) (peg t) (length s)
+tie-at {n} {s} t hs = rw (← hs .size) (tie-by (length s) (peg s) (peg t) (length s))
 
 -- What comes after the discs makes no difference.
 tie-append : (p q zs ws : List ℕ) (k : ℕ) → k ≤ length p → k ≤ length q → tie (peg (p ++ zs)) (peg (q ++ ws)) k ≡ tie (peg p) (peg q) k
@@ -77,10 +78,6 @@ tie-append p q zs ws (suc k) hp hq =
       detour-append p q zs ws k hp hq,
       tie-append p q zs ws k (omega arith) (omega arith),
     )
-
--- So it is with the plan between two positions.
-tie-at : {n : ℕ} {s : List ℕ} (t : List ℕ) → IsPosition n s → tieOf s t ≡ tie (peg s) (peg t) n
-tie-at {n} {s} t hs = rw (← hs .size) (tie-plan s t)
 
 -- The largest discs on one peg: as it is with the smaller ones.
 tie-home : {n i : ℕ} {s t : List ℕ} → i < 3 → IsPosition n s → IsPosition n t → tieOf (withLargest i s) (withLargest i t) ≡ tieOf s t

@@ -1,4 +1,5 @@
--- Hinz's recurrences (002, section 1.3.2). That their quotients are whole and no difference is below 0 is said in Request10: `Recurrences`.
+-- Hinz's recurrences (002, section 1.3.2). That every quotient in them is whole, and no difference below 0, is part of `Recurrences`
+-- (Request10).
 use Prim.Native.Nat.{ℕ, zero, suc, _+_, _-_, _*_, _/_, _^_}
 
 -- u and v (002, (9)).
