@@ -37,8 +37,8 @@ extern "C" {
 #define TOWER_SHORT_BUFFER TOWER_REFUSED(6)     /* moves remain and `out` has fewer than 2 bytes; or fewer entries than tasks */
 #define TOWER_NOT_WHOLE_TASKS TOWER_REFUSED(13) /* the length of the tasks is not a multiple of 2n; with n = 0, not 0 */
 
-/* Whether an answer, or an entry of tower_batch, is a refusal; TOWER_NUMBER is then its number, one of those above. The numbers of the whole
- * library end with 20. */
+/* Whether an answer, or an entry of tower_batch, is a refusal; TOWER_NUMBER is then its number, one of those above. (The library has more
+ * numbers, up to 20, which no function here answers.) */
 #define TOWER_IS_REFUSED(answer) ((uint64_t)(answer) >= TOWER_REFUSED(20))
 #define TOWER_NUMBER(answer) ((unsigned)(0 - (uint64_t)(answer)))
 

@@ -31,10 +31,10 @@ exchange φ n a b = both n (λ s t. φ (on a s + on b t) (on b s + on a t))
 abbrev part : (ℕ → ℕ → ℕ) → ℕ → (f g : List ℕ → List ℕ → ℕ) → ℕ → ℕ → ℕ
 part φ n f g i j = both n (λ s t. φ (f (withLargest i s) (withLargest j t)) (g (withLargest i s) (withLargest j t)))
 
--- These sums are u and w, whichever the pegs are.
-pub record Alike (φ : ℕ → ℕ → ℕ) (n u w : ℕ) : Type 0 where
-  pub crossed : {a b c : ℕ} → Three a b c → crossing φ n a b c ≡ u
-  pub exchanged : {a b c : ℕ} → Three a b c → exchange φ n a b ≡ w
+-- Whichever the pegs are, these sums are cs and es.
+pub record Alike (φ : ℕ → ℕ → ℕ) (n cs es : ℕ) : Type 0 where
+  pub crossed : {a b c : ℕ} → Three a b c → crossing φ n a b c ≡ cs
+  pub exchanged : {a b c : ℕ} → Three a b c → exchange φ n a b ≡ es
 
 module _ {φ : ℕ → ℕ → ℕ} {κ : ℕ → ℕ} (compares : Compares φ κ) where
   -- Both sides are d more than those of another.
@@ -42,9 +42,9 @@ module _ {φ : ℕ → ℕ → ℕ} {κ : ℕ → ℕ} (compares : Compares φ �
   shifted d {m′ = m′} {k′ = k′} e e′ = rw (e, e′) (compares .shift d m′ k′)
 
   -- The first side is always less.
-  none : (n : ℕ) (f g : List ℕ → List ℕ → ℕ) → ((s t : List ℕ) → IsPosition n s → IsPosition n t → f s t < g s t)
+  always-less : (n : ℕ) (f g : List ℕ → List ℕ → ℕ) → ((s t : List ℕ) → IsPosition n s → IsPosition n t → f s t < g s t)
       → both n (λ s t. φ (f s t) (g s t)) ≡ 0
-  none n f g h =
+  always-less n f g h =
       both-cong n (λ s t. φ (f s t) (g s t)) (λ s t. 0) (λ s t hs ht. compares .less (f s t) (g s t) (h s t hs ht))
       ∙ omega (arith, both-const n 0)
 
@@ -84,13 +84,13 @@ module _ {φ : ℕ → ℕ → ℕ} {κ : ℕ → ℕ} (compares : Compares φ �
         → f (withLargest i s) (withLargest j t) < g (withLargest i s) (withLargest j t))
         → part φ n f g i j ≡ 0
     nothing f g i j e =
-        none n (λ s t. f (withLargest i s) (withLargest j t)) (λ s t. g (withLargest i s) (withLargest j t))
+        always-less n (λ s t. f (withLargest i s) (withLargest j t)) (λ s t. g (withLargest i s) (withLargest j t))
         (λ s t hs ht. e s t (lengths-with-each n h s hs) (lengths-with-each n h t ht))
 
-  module _ {n u w : ℕ} (alike : Alike φ n u w) {a b c : ℕ} (h : Three a b c) where
+  module _ {n cs es : ℕ} (alike : Alike φ n cs es) {a b c : ℕ} (h : Three a b c) where
     -- The crossing of n + 1 discs: of its nine parts, named by the pegs of the start's and the goal's largest disc, two are crossings and
     -- one is an exchange.
-    crossed-next : crossing φ (suc n) a b c ≡ 2 * u + w
+    crossed-next : crossing φ (suc n) a b c ≡ 2 * cs + es
     crossed-next =
         let f : List ℕ → List ℕ → ℕ = λ s t. on c s + on c t in
         let g : List ℕ → List ℕ → ℕ = λ s t. on b s + on a t + 2 ^ suc n in
@@ -114,7 +114,7 @@ module _ {φ : ℕ → ℕ → ℕ} {κ : ℕ → ℕ} (compares : Compares φ �
 
     -- The exchange of n + 1 discs: three parts are exchanges, two crossings, two crossings turned round; in one the second side is always
     -- less, and one adds nothing.
-    exchanged-next : exchange φ (suc n) a b ≡ 3 * w + 4 * u + (κ (9 ^ n * (2 * 2 ^ n)) + 2 * κ (9 ^ n * 2 ^ n))
+    exchanged-next : exchange φ (suc n) a b ≡ 3 * es + 4 * cs + (κ (9 ^ n * (2 * 2 ^ n)) + 2 * κ (9 ^ n * 2 ^ n))
     exchanged-next =
         let f : List ℕ → List ℕ → ℕ = λ s t. on a s + on b t in
         let g : List ℕ → List ℕ → ℕ = λ s t. on b s + on a t in
@@ -126,7 +126,7 @@ module _ {φ : ℕ → ℕ → ℕ} {κ : ℕ → ℕ} (compares : Compares φ �
         let b-c = smaller n h f g b c (2 ^ n) (λ s t. on c s + on a t + 2 ^ n) (λ s t. on b s + on b t) (λ s t ls lt. omega arith) in
         let c-a = smaller n h f g c a (2 ^ n) (λ s t. on b s + on c t + 2 ^ n) (λ s t. on a s + on a t) (λ s t ls lt. omega arith) in
         let b-a = smaller n h f g b a 0 (λ s t. on c s + on c t + 2 * 2 ^ n) (λ s t. on b s + on a t) (λ s t ls lt. omega arith) in
-        let never = none n (λ s t. on b s + on a t) (λ s t. on c s + on c t + 2 * 2 ^ n)
+        let never = always-less n (λ s t. on b s + on a t) (λ s t. on c s + on c t + 2 * 2 ^ n)
         (λ s t hs ht. omega (arith, lengths-with-each n h s hs, lengths-with-each n h t ht)) in
         omega (
           arith,
@@ -145,6 +145,6 @@ module _ {φ : ℕ → ℕ → ℕ} {κ : ℕ → ℕ} (compares : Compares φ �
         )
 
   -- A disc more, whichever the pegs are.
-  pub alike-next : {n u w : ℕ} → Alike φ n u w
-      → Alike φ (suc n) (2 * u + w) (3 * w + 4 * u + (κ (9 ^ n * (2 * 2 ^ n)) + 2 * κ (9 ^ n * 2 ^ n)))
+  pub alike-next : {n cs es : ℕ} → Alike φ n cs es
+      → Alike φ (suc n) (2 * cs + es) (3 * es + 4 * cs + (κ (9 ^ n * (2 * 2 ^ n)) + 2 * κ (9 ^ n * 2 ^ n)))
   alike-next alike = record { crossed = λ h. crossed-next alike h; exchanged = λ h. exchanged-next alike h }

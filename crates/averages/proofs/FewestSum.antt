@@ -15,10 +15,10 @@ use Rattle.averages.specs.Hinz.{u, sumBy}
 use Rattle.averages.specs.Positions.{IsPosition, withLargest}
 use Rattle.averages.specs.Totals.{fewestSum}
 use Rattle.averages.proofs.Gathers.{on, front-on, gatherSum, gathers-total, both-on}
+use Rattle.averages.proofs.Hinz.{margin-alike}
 use Rattle.averages.proofs.Pairs.{both, sum-pairs, both-none, both-add, both-cong, both-largest}
 use Rattle.averages.proofs.Positions.{more-position}
 use Rattle.averages.proofs.Powers.{power-times, in-sum}
-use Rattle.averages.proofs.Recurrences.{margin-alike}
 
 -- The fewest moves between two positions of n discs are their distance.
 fewest-at : {n : ℕ} {s t : List ℕ} → IsPosition n s → IsPosition n t → fewest s t ≡ dist (peg s) (peg t) n

@@ -62,7 +62,7 @@ pub record LengthsWith (n a b c : ℕ) (s : List ℕ) : Type 0 where
   pub home : on a (withLargest a s) ≡ on a s
   pub to-second : on b (withLargest a s) ≡ 2 ^ n + on c s
   pub to-third : on c (withLargest a s) ≡ 2 ^ n + on b s
-  pub small : on a s < 2 ^ n
+  pub bounded : on a s < 2 ^ n
 
 -- .. and on each of them.
 pub record LengthsWithEach (n a b c : ℕ) (s : List ℕ) : Type 0 where
@@ -77,7 +77,7 @@ lengths-with n {a} {b} {c} h s hs =
       home = on-home a s;
       to-second = omega (arith, on-away h s);
       to-third = omega (arith, on-away (three-flip h) s);
-      small = on-bound n a s (h .first) hs;
+      bounded = on-bound n a s (h .first) hs;
     }
 
 pub lengths-with-each : (n : ℕ) {a b c : ℕ} → Three a b c → (s : List ℕ) → IsPosition n s → LengthsWithEach n a b c s
@@ -125,7 +125,7 @@ over-on n =
     (omega (arith, over-three n pegs, over-three n (three-swap pegs)))
     (omega (arith, over-three n pegs, over-three n (three-turn (three-turn pegs))))
 
--- So it is for the start and the goal of all pairs, whichever pegs they are gathered on.
+-- So it is for the start and the goal of all pairs, whichever pegs they are gathered on, with d more for each pair.
 pub both-on : (n i j d : ℕ) → i < 3 → j < 3
     → both n (λ s t. on i s + on j t + d) ≡ 2 * (3 ^ n * gatherSum n) + 9 ^ n * d
 both-on n i j d hi hj =

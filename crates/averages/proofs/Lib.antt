@@ -9,7 +9,7 @@ pub mod Powers
 pub mod Gathers
 -- What the largest discs make of the two plans, from one size to the next, and Hinz's u, v, x and y.
 pub mod Crossings
-pub mod Recurrences
+pub mod Hinz
 -- The two totals by the recurrences.
 pub mod FewestSum
 pub mod TieCount

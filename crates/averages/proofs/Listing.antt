@@ -73,11 +73,11 @@ positions-once : (n : ℕ) → List·Nodup (positions n)
 unfolding positions
 positions-once zero = nodup-singleton []
 positions-once (suc n) =
-    let on : (i : ℕ) → List·Nodup (largestOn n i) = λ i. map-once (λ p q e. append-cancel-right p q (i ∷ []) e) (positions-once n) in
-    let two = nodup-append .1 (on 0, on 1, largest-apart n 0 1 (omega arith)) in
+    let once : (i : ℕ) → List·Nodup (largestOn n i) = λ i. map-once (λ p q e. append-cancel-right p q (i ∷ []) e) (positions-once n) in
+    let two = nodup-append .1 (once 0, once 1, largest-apart n 0 1 (omega arith)) in
     nodup-append .1 (
       two,
-      on 2,
+      once 2,
       λ p m m′. Or·elim ⊥-prop (mem-append .0 m) (λ l. largest-apart n 0 2 (omega arith) p l m′) (λ l. largest-apart n 1 2 (omega arith) p l m′),
     )
 

@@ -63,15 +63,15 @@ row n f a b c i =
 pub both-pegs : (n : ℕ) (f : List ℕ → List ℕ → ℕ) {a b c : ℕ} → Three a b c
     → both (suc n) f ≡ row n f a b c a + row n f a b c b + row n f a b c c
 both-pegs n f {a} {b} {c} h =
-    let on : ℕ → List ℕ → ℕ = λ i s. over (suc n) (f (withLargest i s)) in
+    let whole : ℕ → List ℕ → ℕ = λ i s. over (suc n) (f (withLargest i s)) in
     let at : ℕ → ℕ → List ℕ → ℕ = λ i j s. over n (λ t. f (withLargest i s) (withLargest j t)) in
-    let split : (i : ℕ) → over n (on i) ≡ row n f a b c i = λ i.
-    over-cong n (on i) (λ s. at i a s + at i b s + at i c s) (λ s hs. over-pegs n (f (withLargest i s)) h)
+    let split : (i : ℕ) → over n (whole i) ≡ row n f a b c i = λ i.
+    over-cong n (whole i) (λ s. at i a s + at i b s + at i c s) (λ s hs. over-pegs n (f (withLargest i s)) h)
     ∙ over-add n (λ s. at i a s + at i b s) (at i c)
     ∙ ap (λ (m : ℕ). m + over n (at i c)) (over-add n (at i a) (at i b)) in
     omega (arith, over-pegs n (λ s. over (suc n) (f s)) h, split a, split b, split c)
 
--- Where it is h for the largest discs on one peg, whichever it is, and k for them on two.
+-- If the part is h wherever the largest discs are on one peg, and k wherever they are on two, the sum is 3 h + 6 k.
 pub both-largest : (n : ℕ) (f : List ℕ → List ℕ → ℕ) (h k : ℕ)
     → ((i : ℕ) → i < 3 → both n (λ s t. f (withLargest i s) (withLargest i t)) ≡ h)
     → ((a b c : ℕ) → Three a b c → both n (λ s t. f (withLargest a s) (withLargest b t)) ≡ k)

@@ -26,10 +26,11 @@ over-more : (n : ℕ) (f : List ℕ → ℕ)
     → over (suc n) f ≡ over n (λ p. f (withLargest 0 p)) + over n (λ p. f (withLargest 1 p)) + over n (λ p. f (withLargest 2 p))
 unfolding over positions
 over-more n f =
-    let on : ℕ → List (List ℕ) = λ i. map (withLargest i) (positions n) in
-    let all : over (suc n) f ≡ sumOver f (on 0 ++ on 1) + sumOver f (on 2) = sum-append f (on 0 ++ on 1) (on 2) in
-    let part : (i : ℕ) → sumOver f (on i) ≡ over n (λ p. f (withLargest i p)) = λ i. sum-map f (withLargest i) (positions n) in
-    omega (arith, sum-append f (on 0) (on 1), part 0, part 1, part 2)
+    let largest : ℕ → List (List ℕ) = λ i. map (withLargest i) (positions n) in
+    let all : over (suc n) f ≡ sumOver f (largest 0 ++ largest 1) + sumOver f (largest 2) =
+    sum-append f (largest 0 ++ largest 1) (largest 2) in
+    let each : (i : ℕ) → sumOver f (largest i) ≡ over n (λ p. f (withLargest i p)) = λ i. sum-map f (withLargest i) (positions n) in
+    omega (arith, sum-append f (largest 0) (largest 1), each 0, each 1, each 2)
 
 -- So it is with the three pegs in any order.
 pub over-pegs : (n : ℕ) (f : List ℕ → ℕ) {a b c : ℕ} → Three a b c
@@ -51,17 +52,17 @@ more-position {n} {i} {p} hi h =
 pub over-cong : (n : ℕ) (f g : List ℕ → ℕ) → ((p : List ℕ) → IsPosition n p → f p ≡ g p) → over n f ≡ over n g
 over-cong zero f g h = over-none f ∙ h [] none-position ∙ sym (over-none g)
 over-cong (suc n) f g h =
-    let on : (i : ℕ) → i < 3 → over n (λ p. f (withLargest i p)) ≡ over n (λ p. g (withLargest i p)) =
+    let each : (i : ℕ) → i < 3 → over n (λ p. f (withLargest i p)) ≡ over n (λ p. g (withLargest i p)) =
     λ i hi. over-cong n (λ p. f (withLargest i p)) (λ p. g (withLargest i p)) (λ p hp. h (withLargest i p) (more-position hi hp)) in
-    omega (arith, over-more n f, over-more n g, on 0 (omega arith), on 1 (omega arith), on 2 (omega arith))
+    omega (arith, over-more n f, over-more n g, each 0 (omega arith), each 1 (omega arith), each 2 (omega arith))
 
 -- The sum of two functions is the sum of their sums.
 pub over-add : (n : ℕ) (f g : List ℕ → ℕ) → over n (λ p. f p + g p) ≡ over n f + over n g
 over-add zero f g = omega (arith, over-none (λ p. f p + g p), over-none f, over-none g)
 over-add (suc n) f g =
-    let on : (i : ℕ) → over n (λ p. f (withLargest i p) + g (withLargest i p)) ≡ over n (λ p. f (withLargest i p)) + over n (λ p. g (withLargest i p)) =
+    let each : (i : ℕ) → over n (λ p. f (withLargest i p) + g (withLargest i p)) ≡ over n (λ p. f (withLargest i p)) + over n (λ p. g (withLargest i p)) =
     λ i. over-add n (λ p. f (withLargest i p)) (λ p. g (withLargest i p)) in
-    omega (arith, over-more n (λ p. f p + g p), over-more n f, over-more n g, on 0, on 1, on 2)
+    omega (arith, over-more n (λ p. f p + g p), over-more n f, over-more n g, each 0, each 1, each 2)
 
 -- There are 3 ^ n positions.
 pub over-const : (n k : ℕ) → over n (λ p. k) ≡ 3 ^ n * k
@@ -73,9 +74,9 @@ over-const (suc n) k =
 pub over-times : (n k : ℕ) (f : List ℕ → ℕ) → over n (λ p. k * f p) ≡ k * over n f
 over-times zero k f = over-none (λ p. k * f p) ∙ ap (λ (m : ℕ). k * m) (sym (over-none f))
 over-times (suc n) k f =
-    let on : ℕ → ℕ = λ i. over n (λ p. f (withLargest i p)) in
-    let each : (i : ℕ) → over n (λ p. k * f (withLargest i p)) ≡ k * on i = λ i. over-times n k (λ p. f (withLargest i p)) in
-    let whole : k * over (suc n) f ≡ k * (on 0 + on 1 + on 2) = ap (λ (m : ℕ). k * m) (over-more n f) in
+    let part : ℕ → ℕ = λ i. over n (λ p. f (withLargest i p)) in
+    let each : (i : ℕ) → over n (λ p. k * f (withLargest i p)) ≡ k * part i = λ i. over-times n k (λ p. f (withLargest i p)) in
+    let whole : k * over (suc n) f ≡ k * (part 0 + part 1 + part 2) = ap (λ (m : ℕ). k * m) (over-more n f) in
     omega (
       arith,
       over-more n (λ p. k * f p),
@@ -83,6 +84,6 @@ over-times (suc n) k f =
       each 1,
       each 2,
       whole,
-      mul-add k (on 0 + on 1) (on 2),
-      mul-add k (on 0) (on 1),
+      mul-add k (part 0 + part 1) (part 2),
+      mul-add k (part 0) (part 1),
     )

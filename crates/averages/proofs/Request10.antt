@@ -1,14 +1,13 @@
 -- Request 10 holds.
 use Prim.Native.Nat.{ℕ, _^_, _≤_}
 use mathlib.Core.List.{List, Perm, perm-ext-iff-of-nodup}
-use mathlib.Core.Path.{_≡_, _∙_, refl, sym}
+use mathlib.Core.Path.{_≡_, _∙_, sym}
 use native.Mathlib.Omega.{arith}
+use borrow.Author.Tests.{lt-ltb}
 use lib.ListN.{length}
-use Rattle.board.specs.Fault.{Faultless}
 use Rattle.board.specs.Fewest.{fewest}
 use Rattle.board.specs.Reply.{answer}
 use Rattle.averages.specs.Answer.{totalsLimit, totalsOf, totalsAnswer}
-use Rattle.averages.specs.Faults.{totalsFaults}
 use Rattle.averages.specs.Hinz.{u, v, x, y, sumBy, tiesBy}
 use Rattle.averages.specs.Positions.{pairs}
 use Rattle.averages.specs.Request10.{Lists, Request10, Recurrences, GivenTotals}
@@ -18,7 +17,7 @@ use Rattle.averages.proofs.FewestSum.{sum-hinz, saved-less}
 use Rattle.averages.proofs.TermsFit.{terms-fit}
 use Rattle.averages.proofs.Listing.{pairs-listed}
 use Rattle.averages.proofs.Pairs.{sum-pairs, both-const}
-use Rattle.averages.proofs.Powers.{wholes}
+use Rattle.averages.proofs.Powers.{two-more, below-eighteen, wholes}
 use Rattle.averages.proofs.Sums.{sum-ones, sum-perm}
 use Rattle.averages.proofs.TieCount.{ties-hinz}
 use Rattle.averages.proofs.TiedPairs.{tiedPairs, ties-listed, ties-kept}
@@ -43,14 +42,13 @@ recurrences n =
       sum = λ l h. sum-perm (λ c. fewest (c .0) (c .1)) (lists-perm h (pairs-listed n)) ∙ sum-hinz n;
       ties = λ l h. sum-perm (λ c. tieOf (c .0) (c .1)) (lists-perm h (pairs-listed n)) ∙ ties-hinz n;
       whole = wholes n;
-      above = omega (arith, saved-less n);
+      above = omega (arith, saved-less n, below-eighteen n, two-more n);
     }
 
--- What holds of every answer.
-pub request-10 : (n : ℕ) → Faultless (totalsFaults n) → Request10 n
+-- What holds of every answer; up to 15 discs there is one.
+pub request-10 : (n : ℕ) → n ≤ 15 → Request10 n
 unfolding fewestSum
-request-10 n none =
-    let few : n ≤ totalsLimit = omega (arith, none .0) in
+request-10 n few =
     let tied = ties-listed n (omega arith) in
     record {
       totals = totalsOf n;
@@ -59,6 +57,7 @@ request-10 n none =
       ties = λ l h. ties-kept n ∙ sym (sum-ones (tiedPairs n)) ∙ sum-perm (λ c. 1) (lists-perm tied h) ∙ sum-ones l;
       tied = (tiedPairs n, tied);
       hinz = recurrences n;
+      by-hinz = (sum-hinz n, ties-hinz n);
       fits = λ k h. terms-fit k (omega arith);
     }
 
@@ -76,5 +75,5 @@ given-totals =
       three = totals-by 3 (omega arith);
       four = totals-by 4 (omega arith);
       fifteen = totals-by 15 (omega arith);
-      sixteen = unfold totalsAnswer in refl;
+      larger = λ n h. unfold totalsAnswer in rw (lt-ltb totalsLimit n h);
     }

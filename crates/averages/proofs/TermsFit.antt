@@ -22,7 +22,7 @@ in-sum-is : (k : ℕ) → inSum (termsOf k) ≡ 2 * 9 ^ k * (2 ^ (k + 2) - 1)
 unfolding termsOf
 in-sum-is k = ap₂ (λ (m l : ℕ). 2 * m * (l - 1)) (power-times 3 3 k) (two-more k)
 
--- So what the code makes of these terms are those of one disc more.
+-- So what the code makes of these terms is the terms of one disc more.
 pub terms-next : (k : ℕ) → nextOf (termsOf k) ≡ termsOf (suc k)
 unfolding termsOf u v x y sumBy tiesBy
 terms-next k = rw (pow-succ' 2 k, pow-succ' 3 k, power-times 2 3 k, power-times 3 3 k, two-more k)

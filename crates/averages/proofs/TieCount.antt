@@ -20,9 +20,9 @@ use Rattle.averages.specs.Positions.{IsPosition, withLargest}
 use Rattle.averages.specs.Totals.{isTie, tieOf, tieCount}
 use Rattle.averages.proofs.Crossings.{shifted}
 use Rattle.averages.proofs.Gathers.{on, front-on}
+use Rattle.averages.proofs.Hinz.{equal, equality, equal-alike}
 use Rattle.averages.proofs.Pairs.{both, sum-pairs, both-none, both-cong, both-largest}
 use Rattle.averages.proofs.Positions.{none-position, more-position}
-use Rattle.averages.proofs.Recurrences.{equal, equality, equal-alike}
 
 -- 1 where the plan between the discs 1 to k of p and q is a tie, else 0.
 tie : (ℕ → ℕ) → (ℕ → ℕ) → ℕ → ℕ
@@ -51,7 +51,7 @@ tie-way l =
       ]
     ]
 
--- The plan's way is one there.
+-- The plan's way is a tie there.
 tie-by : (m : ℕ) (p q : ℕ → ℕ) (k : ℕ) → isTie (planBy m p q (largest p q k) .way) ≡ tie p q k
 unfolding planBy largest tie
 tie-by m p q zero = refl
@@ -61,7 +61,7 @@ tie-by m p q (suc k) =
       | no n ↦ rw (ne-eqb (p k) (q k) n) (tie-way (lengthsOf p q k))
     ]
 
--- So is the plan between two positions.
+-- So it is with the plan between two positions.
 tie-at : {n : ℕ} {s : List ℕ} (t : List ℕ) → IsPosition n s → tieOf s t ≡ tie (peg s) (peg t) n
 unfolding planOf
 tie-at {n} {s} t hs = rw (← hs .size) (tie-by (length s) (peg s) (peg t) (length s))

@@ -37,9 +37,9 @@ pub record Recurrences (n : ℕ) : Type 0 where
   -- Over any such list, the fewest moves and the plans that are a tie add up to the numbers of Hinz's recurrences.
   pub sum : (l : List (List ℕ × List ℕ)) → Lists n Any l → sumOver (λ c. fewest (c .0) (c .1)) l ≡ sumBy n
   pub ties : (l : List (List ℕ × List ℕ)) → Lists n Any l → sumOver (λ c. tieOf (c .0) (c .1)) l ≡ tiesBy n
-  -- In these every quotient is whole, and no difference is below 0.
+  -- In the recurrences every quotient is whole, and no difference is below 0.
   pub whole : ((3 ^ n + 1) * (6 ^ n - 1) % 5 ≡ 0) × ((6 ^ n - 1) % 5 ≡ 0) × (6 ^ n * (3 ^ n - 1) % 2 ≡ 0)
-  pub above : 6 * u n ≤ 3 * sumBy n + 2 * 9 ^ n * (2 ^ (n + 2) - 1)
+  pub above : (1 ≤ 3 ^ n) × (1 ≤ 6 ^ n) × (1 ≤ 2 ^ (n + 2)) × (6 * u n ≤ 3 * sumBy n + 2 * 9 ^ n * (2 ^ (n + 2) - 1))
 
 -- What holds of what Totals answers for n discs.
 pub record Request10 (n : ℕ) : Type 0 where
@@ -47,14 +47,15 @@ pub record Request10 (n : ℕ) : Type 0 where
   pub answered : totalsAnswer n ≡ answer totals
   -- The sum is that of the fewest moves, over any list of all ordered pairs.
   pub sum : (l : List (List ℕ × List ℕ)) → Lists n Any l → totals .sum ≡ sumOver (λ c. fewest (c .0) (c .1)) l
-  -- The ties are as many as any list of the pairs that tie is long; there is one.
+  -- The ties are the length of any list of the pairs that tie, and there is such a list.
   pub ties : (l : List (List ℕ × List ℕ)) → Lists n Ties l → totals .ties ≡ length l
   pub tied : (l : List (List ℕ × List ℕ)) × Lists n Ties l
-  -- All pairs, and Hinz's recurrences; every number on the way fits 64 bits.
+  -- Both are the numbers of Hinz's recurrences; every number on the way fits 64 bits.
   pub hinz : Recurrences n
+  pub by-hinz : (totals .sum ≡ sumBy n) × (totals .ties ≡ tiesBy n)
   pub fits : (k : ℕ) → k < n → Fits (termsOf k)
 
--- The request's figures, of 0 to 3 discs; besides, those of 4 and 15, the last size, and that 16 discs are refused.
+-- The request's figures, of 0 to 3 discs; besides, those of 4 and of 15, the last size. All larger boards are refused with 20.
 pub record GivenTotals : Type 0 where
   pub none : totalsAnswer 0 ≡ answer (record { sum = 0; ties = 0 })
   pub one : totalsAnswer 1 ≡ answer (record { sum = 6; ties = 0 })
@@ -62,4 +63,4 @@ pub record GivenTotals : Type 0 where
   pub three : totalsAnswer 3 ≡ answer (record { sum = 2838; ties = 48 })
   pub four : totalsAnswer 4 ≡ answer (record { sum = 53160; ties = 282 })
   pub fifteen : totalsAnswer 15 ≡ answer (record { sum = 3552399764155943718; ties = 7157423256 })
-  pub sixteen : totalsAnswer 16 ≡ refused 20
+  pub larger : (n : ℕ) → 15 < n → totalsAnswer n ≡ refused 20

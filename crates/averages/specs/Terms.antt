@@ -21,7 +21,7 @@ inV t = six t * (t .three - 1)
 abbrev pub inSum : Terms → ℕ
 inSum t = 2 * (t .three * t .three) * (4 * t .two - 1)
 
--- What the recurrences make of the terms.
+-- What the recurrences make of the terms; the sum is in Inner/Next.
 abbrev pub nextU : Terms → ℕ
 nextU t = 2 * t .u + 2 * t .v + inU t / 5
 
@@ -37,12 +37,13 @@ nextY t = 2 * t .x + 3 * t .y + 1
 abbrev pub nextTies : Terms → ℕ
 nextTies t = 3 * t .ties + 6 * t .x
 
--- Every number on the way to the terms of one disc more fits 64 bits, and no difference is below 0.
+-- Every number on the way to the terms of one disc more fits 64 bits, those not named being at most one that is, and no difference is
+-- below 0.
 pub record Fits (t : Terms) : Type 0 where
   pub sum : (3 * t .sum + inSum t < 2 ^ 64) × (6 * t .u ≤ 3 * t .sum + inSum t)
   pub ties : nextTies t < 2 ^ 64
-  pub u-v : (nextU t < 2 ^ 64) × (nextV t < 2 ^ 64)
-  pub x-y : (nextX t < 2 ^ 64) × (nextY t < 2 ^ 64)
+  pub u-and-v : (nextU t < 2 ^ 64) × (nextV t < 2 ^ 64)
+  pub x-and-y : (nextX t < 2 ^ 64) × (nextY t < 2 ^ 64)
   pub products : (inU t < 2 ^ 64) × (inV t < 2 ^ 64)
   pub powers : (4 * t .two < 2 ^ 64) × (3 * t .three < 2 ^ 64) × (six t < 2 ^ 64) × (2 * (t .three * t .three) < 2 ^ 64)
   pub positive : (1 ≤ t .two) × (1 ≤ t .three) × (1 ≤ six t)

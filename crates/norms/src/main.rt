@@ -1,4 +1,5 @@
-// The totals of whole boards (document 02, CR 10): a line for each size, and the refusal of those above 15 discs.
+// The totals of whole boards (document 02, CR 10): a line for each size from 0 to 17 discs, and one for the largest number of 64 bits.
+// Above 15 discs it is the refusal.
 use averages::Totalled;
 use show::named;
 use show::text;
@@ -6,14 +7,14 @@ use show::text;
 fn main() {
     let mut n = 0;
     while n < 18 {
-        board(n);
+        line(n);
         n += 1;
     }
-    board(18446744073709551615);
+    line(18446744073709551615);
 }
 
 // The line of a size.
-fn board(n: u64) {
+fn line(n: u64) {
     show::number(n);
     match averages::totals(n) {
         Totalled::Totals(totals) => {

@@ -44,7 +44,7 @@ unfolding direct detour
 dist-away p q k {x} {y} {z} ex ey h =
     dist-plan p q k (λ e. h .first-second (sym ex ∙ e ∙ ey)) ∙ rw (ex, ey, three-third h)
 
--- What comes after the discs that move makes no difference to the lengths of the plan of disc k + 1 ..
+-- What comes after two positions makes no difference to the lengths of the plan of their disc k + 1 ..
 pub direct-append : (p q zs ws : List ℕ) (k : ℕ) → k < length p → k < length q → direct (peg (p ++ zs)) (peg (q ++ ws)) k ≡ direct (peg p) (peg q) k
 unfolding direct
 direct-append p q zs ws k hp hq =

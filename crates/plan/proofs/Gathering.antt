@@ -41,7 +41,7 @@ gather-cong zero j h = refl
 gather-cong (suc k) {p} {q} j h =
     rw (h k (omega arith), gather-cong k {p = p} {q = q} (third j (q k)) (λ d l. h d (omega arith)))
 
--- They are the same in a position with anything after it.
+-- So the length is the same with anything after the position.
 pub gather-append : (p zs : List ℕ) (k j : ℕ) → k ≤ length p → gather (peg (p ++ zs)) k j ≡ gather (peg p) k j
 gather-append p zs k j h = gather-cong k {p = peg (p ++ zs)} {q = peg p} j (λ d l. List·getD-append p zs 0 d (omega arith))
 

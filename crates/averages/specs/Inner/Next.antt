@@ -4,6 +4,7 @@ use Rattle.averages.specs.Terms.{inSum, nextU, nextV, nextX, nextY, next
 use Rattle.averages.specs.declared.answer.Totals.{Totals}
 use Rattle.averages.specs.declared.terms.Terms.{Terms}
 
+-- The sum of one disc more.
 abbrev pub nextSum : Terms → ℕ
 nextSum t = 3 * t .sum + inSum t - 6 * t .u
 

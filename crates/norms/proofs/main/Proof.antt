@@ -13,8 +13,8 @@ abbrev μ-loop : tie.MeasureT-loop
 loop-holds : tie.Need-loop-holds Inv-loop μ-loop
 loop-holds c = search needs
 
-board-requires : tie.Need-board-requires Inv-loop μ-loop
-board-requires c κs = search needs
+line-requires : tie.Need-line-requires Inv-loop μ-loop
+line-requires c κs = search needs
 
 add-n : tie.Need-add-n Inv-loop μ-loop
 add-n c = search needs
@@ -25,8 +25,8 @@ loop-less c = search needs
 loop-again : tie.Need-loop-again Inv-loop μ-loop
 loop-again c = search needs
 
-board-requires-2 : tie.Need-board-requires-2 Inv-loop μ-loop
-board-requires-2 c κs = search needs
+line-requires-2 : tie.Need-line-requires-2 Inv-loop μ-loop
+line-requires-2 c κs = search needs
 
 returns : tie.Need-returns Inv-loop μ-loop
 returns c = search needs
@@ -38,9 +38,9 @@ main-spec =
     Inv-loop
     μ-loop
     loop-holds
-    board-requires
+    line-requires
     add-n
     loop-less
     loop-again
-    board-requires-2
+    line-requires-2
     returns)

@@ -36,7 +36,7 @@ equal-comm m k =
       | no l ↦ rw (ne-eqb m k l, ne-eqb k m (omega arith))
     ]
 
--- So equal numbers are compared as the margin is, and nothing is more one way than the other.
+-- Whether two numbers are equal: exchanging the sides changes nothing.
 pub equality : Compares equal (λ e. 0)
 unfolding equal
 equality =
