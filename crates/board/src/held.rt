@@ -11,7 +11,7 @@ pub fn padded_array(position: &[u8]) -> [u8; LIMIT]
     ensures { result ≡ padded position.now }
 {
     let mut all = [0; LIMIT];
-    bytes::copy(position, &mut all);
+    all[..position.len()].copy_from_slice(position);
     all
 }
 

@@ -10,7 +10,12 @@ use crate::refusal::{Refusal, Verdict};
 pub fn top_of(position: &[u8], peg: u8) -> usize
     ensures { result ≡ top position.now peg }
 {
-    bytes::scan::find(position, 0, position.len(), peg)
+    for (i, b) in position.iter().enumerate() {
+        if *b == peg {
+            return i;
+        }
+    }
+    position.len()
 }
 
 // The first fault of a move on a position.

@@ -1,4 +1,6 @@
 // The board's vocabulary in code: pegs, positions, tasks, moves and refusals (document 01).
+#![tactic(auto)]
+
 mod held;
 mod legal;
 mod peg;
