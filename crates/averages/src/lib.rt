@@ -1,4 +1,6 @@
 // Whole-board averages (document 02, CR 10): the fewest moves between all ordered pairs of positions, added up, and how many of them tie.
+#![tactic(auto)]
+
 mod answer;
 mod terms;
 

@@ -7,7 +7,7 @@ ghost use Rattle.averages.specs.Terms.{terms_of, next_u, next_v, next_x, next_y,
 use crate::answer::Totals;
 
 // The terms of k discs: 2^k, 3^k, Hinz's u, v, x and y, the sum of the fewest moves and the number of ties.
-#[derive(Drop)]
+#[derive(Clone, Copy)]
 pub struct Terms {
     pub two: u64,
     pub three: u64,

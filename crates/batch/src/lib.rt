@@ -1,4 +1,6 @@
 // Batch (document 02, CR 5): the shortest lengths of many tasks of one size in one call.
+#![tactic(auto)]
+
 mod entries;
 
 ghost use Rattle.std.specs.Prelude.{◌≡◌, ◌≤◌};
@@ -9,7 +11,7 @@ ghost use Rattle.batch.specs.Tasks.{tasks_in};
 use board::{LIMIT, Refusal};
 
 // What Batch answers: how many tasks there are.
-#[derive(Drop)]
+#[derive(Clone, Copy)]
 pub enum Batched {
     Tasks(usize),
     Refused(Refusal),

@@ -35,7 +35,7 @@ pub fn move_at(name: &[u8], task: &[u8], route: u64, index: u64) {
 }
 
 // The calls that write into a buffer.
-#[derive(Drop)]
+#[derive(Clone, Copy)]
 enum Writes {
     Place,
     Run,
@@ -149,7 +149,7 @@ fn wear_into(task: &[u8], route: u64, buffer: &mut [u64]) {
 }
 
 // The calls that write numbers of 64 bits.
-#[derive(Drop)]
+#[derive(Clone, Copy)]
 enum Counts {
     Batch,
     Wear,

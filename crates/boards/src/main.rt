@@ -1,4 +1,6 @@
 // Prints what the library answers on the boards of documents 01 and 02 and on faulty calls.
+#![tactic(auto)]
+
 mod batches;
 mod boards;
 mod checks;

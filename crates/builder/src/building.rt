@@ -10,7 +10,7 @@ use crate::sound::is_sound;
 use board::{LIMIT, Refusal, Verdict};
 
 // An answer, and the builder after it.
-#[derive(Drop)]
+#[derive(Clone, Copy)]
 pub struct Built {
     pub verdict: Verdict,
     pub builder: Builder,

@@ -1,4 +1,6 @@
 // Tasks built up disc by disc (document 02, CR 9): a position and its three gather lengths, brought up to date with each largest disc.
+#![tactic(auto)]
+
 mod building;
 mod lengths;
 mod record;

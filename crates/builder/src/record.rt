@@ -5,7 +5,7 @@ ghost use Rattle.builder.specs.Builder.{empty as emptyBuilder};
 use board::LIMIT;
 
 // n discs; their position, unused bytes 0; the moves that gather them on each peg.
-#[derive(Drop)]
+#[derive(Clone, Copy)]
 pub struct Builder {
     pub n: usize,
     pub position: [u8; LIMIT],

@@ -1,4 +1,6 @@
 // Builders through Add and Remove (document 02, CR 9): a line for each fact.
+#![tactic(auto)]
+
 mod damage;
 mod edges;
 mod same;

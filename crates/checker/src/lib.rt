@@ -1,4 +1,6 @@
 // The checker (document 02, CR 7): whether letter pairs are a shortest route of a task, and which of ours.
+#![tactic(auto)]
+
 mod letters;
 mod numbering;
 mod stacks;
@@ -12,7 +14,7 @@ use board::{Refusal, Verdict};
 use plan::Planned;
 
 // The checker's answer: the number of the route.
-#[derive(Drop)]
+#[derive(Clone, Copy)]
 pub enum Checked {
     Route(u64),
     Refused(Refusal),

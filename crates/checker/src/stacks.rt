@@ -9,7 +9,7 @@ ghost use Rattle.run.specs.Inner.Stepper.{Carries};
 
 use board::LIMIT;
 
-#[derive(Drop)]
+#[derive(Clone, Copy)]
 pub struct Stacks {
     pub top: [usize; 3],
     pub beneath: [usize; LIMIT],

@@ -14,7 +14,7 @@ use crate::stacks::{Stacks, move_disc, take_off};
 use board::LIMIT;
 
 // How many moves were made, and whether they lead to the goal.
-#[derive(Drop)]
+#[derive(Clone, Copy)]
 pub struct Walked {
     pub made: usize,
     pub there: bool,

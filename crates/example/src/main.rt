@@ -1,4 +1,6 @@
 // A first session: the fewest moves of a task, two plays, and the report.
+#![tactic(auto)]
+
 mod own;
 
 use board::Verdict;

@@ -1,5 +1,7 @@
 // The totals of whole boards (document 02, CR 10): a line for each size from 0 to 17 discs, and one for the largest number of 64 bits.
 // Above 15 discs it is the refusal.
+#![tactic(auto)]
+
 use averages::Totalled;
 use show::{named, text};
 

@@ -1,5 +1,7 @@
 // Calls that C does not get, exported one by one for `make bench` to time. This library is not installed.
 // What C owes: behind each pointer as many bytes as the length after it says, and an `out` that shares no byte with `task`.
+#![tactic(auto)]
+
 ghost use Rattle.std.specs.Prelude.{◌≡◌};
 ghost use Rattle.parts.specs.Answer.{parts_answer, parts_writes};
 ghost use Rattle.session.specs.Answer.{begin_answer, session_or};

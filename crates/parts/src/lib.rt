@@ -1,4 +1,6 @@
 // Parts (document 02, CR 1): the parts of the plan behind many moves of a shortest route at once, a letter each.
+#![tactic(auto)]
+
 mod course;
 mod pen;
 

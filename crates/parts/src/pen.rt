@@ -7,7 +7,7 @@ use route::Part;
 use route::count::lesser;
 
 // So many letters are put down, and so many moves are still to be passed over before the next.
-#[derive(Drop)]
+#[derive(Clone, Copy)]
 pub struct Pen {
     pub at: usize,
     pub skip: u64,

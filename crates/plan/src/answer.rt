@@ -5,21 +5,21 @@ ghost use Rattle.plan.specs.Plan.{way_of, shortest as shortestOf, routes as rout
 use board::Refusal;
 
 // Gather's answer.
-#[derive(Drop)]
+#[derive(Clone, Copy)]
 pub enum Gathered {
     Length(u64),
     Refused(Refusal),
 }
 
 // The lengths of the one_move and of the two-move plan.
-#[derive(Drop)]
+#[derive(Clone, Copy)]
 pub struct Lengths {
     pub direct: u64,
     pub detour: u64,
 }
 
 // Which plan is the shorter. Still: no disc moves.
-#[derive(Drop)]
+#[derive(Clone, Copy)]
 pub enum Way {
     Still,
     Direct(Lengths),
@@ -29,7 +29,7 @@ pub enum Way {
 
 // A plan: the number of discs, the largest disc that moves with the pegs that it leaves and reaches (all 0 where none moves), and
 // the way.
-#[derive(Drop)]
+#[derive(Clone, Copy)]
 pub struct Plan {
     pub discs: usize,
     pub largest: usize,
@@ -39,7 +39,7 @@ pub struct Plan {
 }
 
 // Plan's answer.
-#[derive(Drop)]
+#[derive(Clone, Copy)]
 pub enum Planned {
     Plan(Plan),
     Refused(Refusal),

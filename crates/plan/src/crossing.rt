@@ -34,8 +34,8 @@ fn lengths(start: &[u8], goal: &[u8], k: usize) -> Lengths
     let c = board::third(a, b);
     let mut from = [0; LIMIT];
     let mut to = [0; LIMIT];
-    bytes::copy(start, &mut from);
-    bytes::copy(goal, &mut to);
+    from[..start.len()].copy_from_slice(start);
+    to[..goal.len()].copy_from_slice(goal);
     let mut sums = [0; 2];
     gather_together(
         &from, &to, k, c as u64, c as u64, b as u64, a as u64, &mut sums,

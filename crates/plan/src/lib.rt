@@ -1,4 +1,6 @@
 // Gather and Plan (document 01): the fewest moves to stack a position, and between the two positions of a task.
+#![tactic(auto)]
+
 mod answer;
 pub mod crossing;
 pub mod stack;

@@ -1,4 +1,6 @@
 // Sessions played through Begin, Play and Report (documents 01 and 02): a line for each fact.
+#![tactic(auto)]
+
 mod boards;
 mod damage;
 mod excess;

@@ -9,7 +9,7 @@ use crate::part::Part;
 use plan::{Plan, Way};
 
 // Disc `disc` + 1 crosses from `from` to `to`, directly or by way of `free`, after `first` moves of gathering.
-#[derive(Drop)]
+#[derive(Clone, Copy)]
 pub struct Course {
     pub disc: usize,
     pub from: u8,
@@ -20,7 +20,7 @@ pub struct Course {
 }
 
 // So many moves of the first gathering left, of the shift left, or of the spreading done.
-#[derive(Drop)]
+#[derive(Clone, Copy)]
 pub enum Stage {
     Gathering(u64),
     Shifting(u64),

@@ -10,7 +10,7 @@ use board::LIMIT;
 
 // Where a disc is, and what is left of the gathering for the smaller ones: their target, the moves left, and the peg on which they
 // are a tower, or 3 where they start as in the position.
-#[derive(Drop)]
+#[derive(Clone, Copy)]
 pub struct Passed {
     pub peg: u8,
     pub goal: u8,

@@ -1,5 +1,7 @@
 // Move, Place and Locate (document 01; document 02, CR 1): any move of a shortest route with the part of the plan behind it, any
 // position, and from a position back to its index.
+#![tactic(auto)]
+
 mod answer;
 pub mod count;
 pub mod course;

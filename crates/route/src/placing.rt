@@ -25,7 +25,7 @@ pub fn place(task: &[u8], route: u64, index: u64, out: &mut [u8]) -> Verdict
                 return Verdict::Refused(Refusal::ShortBuffer);
             }
             let pegs = route_pegs(&task[..n], &task[n..], p, route, index);
-            bytes::copy(&pegs[..n], out);
+            out[..n].copy_from_slice(&pegs[..n]);
             Verdict::Accepted
         }
     }

@@ -1,4 +1,6 @@
 // Run (document 01): many moves of a shortest route at once, each without a fresh plan.
+#![tactic(auto)]
+
 mod pegs;
 mod start;
 mod stepper;

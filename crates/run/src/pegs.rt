@@ -6,7 +6,7 @@ ghost use Rattle.run.specs.Inner.Pegs.{Holds};
 
 use board::LIMIT;
 
-#[derive(Drop)]
+#[derive(Clone, Copy)]
 pub struct Pegs {
     pub top: [u8; 3],
     pub beneath: [u8; LIMIT],

@@ -9,7 +9,7 @@ use crate::pegs::Pegs;
 use board::LIMIT;
 
 // A move of disc `disc` + 1, for which the smaller ones are gathered on the third peg; `again`: the same disc crosses once more.
-#[derive(Drop)]
+#[derive(Clone, Copy)]
 pub struct Leg {
     pub disc: usize,
     pub from: u8,
@@ -18,7 +18,7 @@ pub struct Leg {
 }
 
 // Disc 1's peg, its next target, and the moves left of gathering the discs below the leg's.
-#[derive(Drop)]
+#[derive(Clone, Copy)]
 pub struct Turn {
     pub small: u8,
     pub aim: u8,
@@ -26,7 +26,7 @@ pub struct Turn {
 }
 
 // The pegs, the turn and the leg.
-#[derive(Drop)]
+#[derive(Clone, Copy)]
 pub struct Stepper {
     pub pegs: Pegs,
     pub turn: Turn,
@@ -34,7 +34,7 @@ pub struct Stepper {
 }
 
 // A move, and the turn after it.
-#[derive(Drop)]
+#[derive(Clone, Copy)]
 pub struct Step {
     pub from: u8,
     pub to: u8,

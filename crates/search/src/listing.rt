@@ -95,7 +95,7 @@ fn write_list(list: usize, moves: usize, n: usize, start: usize, letters: &mut [
 }
 
 // How many lists there are, and of how many the checker answers as the distance says.
-#[derive(Drop)]
+#[derive(Clone, Copy)]
 pub struct Lists {
     pub all: u64,
     pub right: u64,

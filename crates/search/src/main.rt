@@ -22,6 +22,8 @@
 //            to that of the goal, the distance of q as the index and the lowest route on which Place has q there, and else Off
 //   totals   of the two numbers that Totals answers for n, those that are this line's sum and ties
 //   wrong    the comparisons that fail, which the other columns but pairs, sum, ties and moves leave out
+#![tactic(auto)]
+
 mod listing;
 mod locating;
 mod pairs;

@@ -5,7 +5,7 @@ use route::Moving;
 
 // How far a route is: the largest disc that changes its peg has not moved; it has just moved for the first time; others move until it
 // moves again; it moves no more; or the letters do not fit the discs.
-#[derive(Drop)]
+#[derive(Clone, Copy)]
 enum Phase {
     Before,
     Crossed,

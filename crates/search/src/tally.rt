@@ -29,7 +29,7 @@ fn failing(all: u64, right: u64) -> u64 {
 }
 
 // The fields of a line.
-#[derive(Drop)]
+#[derive(Clone, Copy)]
 pub struct Tally {
     pub pairs: u64,
     pub sum: u64,

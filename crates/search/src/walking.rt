@@ -103,7 +103,7 @@ fn is_right(
 }
 
 // How many routes of a task go right, how many have the right letters, how many the right wears, and how many the checker knows.
-#[derive(Drop)]
+#[derive(Clone, Copy)]
 pub struct Right {
     pub routes: u64,
     pub parts: u64,

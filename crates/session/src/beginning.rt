@@ -10,7 +10,7 @@ use crate::sound::fewest_of;
 use board::{LIMIT, Verdict};
 
 // Begin's answer: the record beside the verdict. Where the task is refused it is no sound record.
-#[derive(Drop)]
+#[derive(Clone, Copy)]
 pub struct Begun {
     pub verdict: Verdict,
     pub session: Session,

@@ -1,4 +1,6 @@
 // Begin, Play and Report (document 01): a subject's session on a task.
+#![tactic(auto)]
+
 mod beginning;
 mod counting;
 mod lending;

@@ -11,14 +11,14 @@ use crate::sound::{fewest_held, is_sound};
 use board::{Refusal, Verdict};
 
 // Play's answer.
-#[derive(Drop)]
+#[derive(Clone, Copy)]
 pub enum Played {
     Marked(Mark),
     Refused(Refusal),
 }
 
 // A play's answer and the record after it.
-#[derive(Drop)]
+#[derive(Clone, Copy)]
 pub struct Stepped {
     pub played: Played,
     pub session: Session,

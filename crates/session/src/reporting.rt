@@ -10,7 +10,7 @@ use crate::sound::{fewest_held, is_sound};
 use board::Refusal;
 
 // Report's answer.
-#[derive(Drop)]
+#[derive(Clone, Copy)]
 pub enum Reported {
     Report(Figures),
     Refused(Refusal),

@@ -1,4 +1,6 @@
 // How the programs print answers: each in one way, to standard output.
+#![tactic(auto)]
+
 mod answers;
 mod sessions;
 mod words;

@@ -1,4 +1,6 @@
 // The task program on byte slices: its reader and its report (document 01, "Task program", "One report in full").
+#![tactic(auto)]
+
 mod put;
 mod read;
 mod report;
@@ -57,5 +59,6 @@ pub fn answer(input: &[u8], page: &mut Page) -> usize
 {
     let mut own: Page = [0; 8192];
     let end = put_answer(input, &mut own);
-    bytes::copy(&own[..end], page)
+    page[..end].copy_from_slice(&own[..end]);
+    end
 }

@@ -11,7 +11,7 @@ pub const MOST: usize = 512;
 const NEWLINE: u8 = b'\n';
 
 // What may come next in a text.
-#[derive(Drop)]
+#[derive(Clone, Copy)]
 pub enum Next {
     Bracket,
     DigitOrEnd,
@@ -104,7 +104,12 @@ pub fn is_text(input: &[u8]) -> bool
 fn line_end(input: &[u8]) -> usize
     ensures { result ≡ line_end input.now }
 {
-    bytes::scan::find(input, 0, input.len(), NEWLINE)
+    for (i, b) in input.iter().enumerate() {
+        if *b == NEWLINE {
+            return i;
+        }
+    }
+    input.len()
 }
 
 // Puts the digits among some bytes into a task from a place on, and answers the place after them.
@@ -126,7 +131,7 @@ fn put_digits(bytes: &[u8], task: &mut [u8; 512], at: usize) -> usize
 }
 
 // How many digits the first line has, and how many both have.
-#[derive(Drop)]
+#[derive(Clone, Copy)]
 pub struct DigitCounts {
     pub start: usize,
     pub all: usize,

@@ -1,4 +1,6 @@
 // Prints what the task program answers to document 01's boards and to texts at the edges of its grammar.
+#![tactic(auto)]
+
 mod answers;
 mod lines;
 

@@ -1,6 +1,8 @@
 // Plan, Gather, Run and Batch for C: each answer is one number of 64 bits. Refusal k comes as 2^64 - k, which no other answer reaches.
 // What C owes: behind each pointer as many bytes, or numbers of 64 bits, as the length after it says, and an `out` that shares no byte
 // with what is read.
+#![tactic(auto)]
+
 ghost use Rattle.std.specs.Prelude.{◌≡◌};
 ghost use Rattle.batch.specs.Answer.{batch_answer, batch_writes};
 ghost use Rattle.route.specs.Answer.{run_writes};

@@ -1,4 +1,6 @@
 // Wear (document 02, CR 6): how often each disc moves on a shortest route.
+#![tactic(auto)]
+
 mod writing;
 
 ghost use Rattle.std.specs.Prelude.{◌≡◌};

@@ -1,4 +1,6 @@
 // A reply as one number of 64 bits, as the C host gets it. Refusal k comes as 2^64 - k, which no other answer reaches.
+#![tactic(auto)]
+
 ghost use Rattle.std.specs.Prelude.{◌≡◌};
 ghost use Rattle.board.specs.Refusal.{number};
 ghost use Rattle.board.specs.Reply.{refused};
