@@ -30,7 +30,15 @@ zero_zeros (b ∷ a) e =
     let both = (and-eq-true_iff (eqb b 0) (all_zero a)).0 e in
     cc (eqb-true b 0 both.0, zero_zeros a both.1)
 
+-- Behind the position stand the zeros that are left.
+drop_zeros : (p : List ℕ) → p ++ drop (length p) (replicate limit 0) ≡ padded p
+drop_zeros p = rw drop_replicate
+
 -- A position copied over the first of as many zeros as there can be discs is its array.
+pub copied_over : {a : List ℕ} (p : List ℕ) → a ≡ p → a ++ drop (length p) (replicate limit 0) ≡ padded p
+copied_over p e = ap (λ (b : List ℕ). b ++ drop (length p) (replicate limit 0)) e ∙ drop_zeros p
+
+-- The same, of the position's own bytes.
 pub copied_padded : (p : List ℕ) → take (length p) p ++ drop (length p) (replicate limit 0) ≡ padded p
 copied_padded p = rw (take-length, drop_replicate)
 
