@@ -4,7 +4,7 @@ use mathlib.Core.List.{List, [], ◌∷◌, map}
 use mathlib.Core.Path.{◌≡◌, refl}
 use native.Mathlib.Omega.{arith}
 use lib.ListN.{length, take, drop}
-use Rattle.board.specs.Move.{Leads, next}
+use Rattle.board.specs.Move.{Leads, next, moved}
 use Rattle.route.specs.Answer.{letter, letters}
 use Rattle.route.specs.Ours.{read_peg, read_moves}
 use Rattle.route.specs.Route.{plain}
@@ -18,7 +18,7 @@ PegMoves (m ∷ ms) = (m.from < 3) × (m.to < 3) × PegMoves ms
 -- Legal moves are such.
 pub leads_pegs : {p q : List ℕ} (ms : List DiscMove) → Leads p (map plain ms) q → PegMoves ms
 leads_pegs [] w = tt
-leads_pegs (m ∷ ms) (next l w) = (l.from_peg, l.to_peg, leads_pegs ms w)
+leads_pegs {p = p} (m ∷ ms) (next l w) = (l.from_peg, l.to_peg, leads_pegs {p = moved p (plain m)} ms w)
 
 -- So are the first of them, and the last.
 pub pegs_take : (k : ℕ) (ms : List DiscMove) → PegMoves ms → PegMoves (take k ms)

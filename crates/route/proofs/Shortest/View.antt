@@ -8,7 +8,7 @@ use native.Mathlib.Omega.{arith}
 use borrow.Author.Tests.{lt-ltb, le-ltb}
 use lib.ListN.{length, get_or-eq_default}
 use Rattle.board.specs.Position.{peg}
-use Rattle.plan.specs.Plan.{direct, detour, largest, lengths_of, way_of, plan_by, plan_of}
+use Rattle.plan.specs.Plan.{largest, lengths_of, way_of, plan_by, plan_of}
 use Rattle.plan.specs.declared.answer.Lengths.{Lengths}
 use Rattle.plan.specs.declared.answer.Way.TheVariants.{Still, Direct, Detour, Tie}
 use Rattle.plan.proofs.Distance.{dist, dist_home}

@@ -5,7 +5,6 @@ use mathlib.Core.List.{List, [], ◌∷◌, ◌++◌}
 use native.Mathlib.Decide.{ℕ_discrete}
 use native.Mathlib.Omega.{arith}
 use lib.ListN.{length}
-use Rattle.board.specs.Move.{next}
 use Rattle.plan.specs.Gather.{gather}
 use Rattle.plan.proofs.Gathering.{Pegs, Tower, gathered_tower}
 use Rattle.plan.proofs.Step.{Step, step_back}

@@ -1,0 +1,58 @@
+-- `route::gathering::pegs_along` meets its contract. The loop's invariant: what is left of the gathering has discs 1 to m where the
+-- whole has them, and the array has the others there. The measure is m. Assumes nothing.
+use Prim.Native.Nat.{ℕ, suc, ◌-◌, ◌≤◌, ◌<◌}
+use mathlib.Core.Path.{◌≡◌, refl}
+use mathlib.Core.List.{List}
+use native.Mathlib.Decide.{ℕ_discrete}
+use native.Mathlib.Omega.{arith}
+use lib.ListN.{length, get_or, set, length-set}
+use lib.Seq.{get_or-set_same, get_or-set_other}
+use Rattle.board.proofs.Formed.{formed_pegs}
+use Rattle.route.specs.Inner.Along.{stacked}
+use Rattle.route.proofs.Along.Along.{along_pegs}
+use Rattle.route.proofs.gathering.pegs_along.Goals as goal
+
+-- A list that has f from m + 1 on has f from m on once f m is written at m.
+from_less : {f : ℕ → ℕ} {k : ℕ} (a : List ℕ) (m x : ℕ) → m < length a → x ≡ f m
+    → ((d : ℕ) → m < d → d < k → get_or a d 0 ≡ f d) → (d : ℕ) → m ≤ d → d < k → get_or (set a m x) d 0 ≡ f d
+from_less a m x hm e old d l h =
+    elim (ℕ_discrete d m) [
+      | yes s ↦ rw (s, get_or-set_same a m x 0 hm) e
+      | no n ↦ rw (get_or-set_other a m d x 0 n) (old d (omega arith) h)
+    ]
+
+pub loop-m-init : goal.loop-m-init
+unfolding stacked
+loop-m-init c =
+    (omega arith, c.requires.target, refl, λ d l. refl, λ d l h. absurd (omega arith))
+
+pub pass-passed-requires : goal.pass-passed-requires
+pass-passed-requires c =
+    record {
+      there = omega arith;
+      within = omega arith;
+      formed = c.requires.formed;
+      target = c.loop-m.invariant.1;
+    }
+
+-- Disc m is passed.
+pub loop-m-preserved : goal.loop-m-preserved
+loop-m-preserved c =
+    let less = c.loop-m.m - 1 in
+    let up : suc less ≡ c.loop-m.m = omega arith in (
+      omega arith,
+      c.pass-passed.ensures.target,
+      simp length-set c.loop-m.invariant.2,
+      λ d l. rw (← c.pass-passed.ensures.below d l, up) (c.loop-m.invariant.3 d (omega arith)),
+      from_less c.loop-m.pegs less _ (omega arith) (rw (← c.pass-passed.ensures.here, up) (c.loop-m.invariant.3 less (omega arith)))
+          (λ d l. c.loop-m.invariant.4 d (omega arith)),
+    )
+
+-- No disc is left.
+pub returns : goal.returns
+returns c =
+    let has = c.loop-m.invariant.4 in
+    record {
+      is = λ d. has d (omega arith);
+      pegs = λ d h. rw (has d (omega arith) h) (along_pegs _ (formed_pegs _ c.requires.formed) _ _ _ c.requires.target d);
+    }

@@ -1,0 +1,82 @@
+-- `route::stage::stage_pegs` meets its contract: the discs below k are where the gathering has them, and the larger ones stay. Assumes
+-- nothing.
+use Prim.Native.Nat.{ℕ, ◌≤◌, ◌<◌}
+use mathlib.Core.Path.{◌≡◌, ◌∙◌, refl, sym}
+use mathlib.Core.Bool.{cond}
+use mathlib.Core.List.{List}
+use native.Mathlib.Decide.{ℕ_discrete, dec_lt}
+use native.Mathlib.Omega.{arith}
+use borrow.Author.Tests.{eq-eqb, ne_eqb, lt-ltb, le-ltb}
+use lib.Dec.{eqb, ltb}
+use lib.ListN.{length, get_or, set, replicate}
+use lib.Seq.{get_or-set_same, get_or-set_other}
+use Rattle.board.specs.Position.{peg}
+use Rattle.board.specs.Task.{limit}
+use Rattle.plan.proofs.Sound.{start_gatherable, goal_gatherable}
+use Rattle.route.specs.Inner.Along.{along, Along}
+use Rattle.route.specs.Inner.Stage.{stage_peg}
+use Rattle.route.proofs.Along.Along.{along_above}
+use Rattle.route.proofs.Courses.Plan.{first_peg_fits, last_peg_fits}
+use Rattle.route.proofs.Along.Towers.{tower_gatherable, tower_along}
+use Rattle.route.proofs.stage.stage_pegs.Goals as goal
+
+-- The pegs along the gathering of a position, with its larger discs, are those of all its discs.
+joined_along : {p a : List ℕ} {k j r b : ℕ} (d : ℕ) → Along p k j r a → b ≡ cond (ltb d k) (get_or a d 0) (peg p d)
+    → b ≡ along (peg p) k j r d
+joined_along {p} {k = k} {j} {r} d h e =
+    elim (dec_lt d k) [
+      | yes l ↦ e ∙ rw (lt-ltb d k l) (h.is d l)
+      | no n ↦ e ∙ rw (le-ltb d k (omega arith)) (sym (along_above (peg p) k j r d (omega arith)))
+    ]
+
+-- The pegs along the gathering of a tower on x, with disc k + 1 on f and the larger discs of a position.
+joined_tower : (p b : List ℕ) (x f : ℕ) {a : List ℕ} {k j r : ℕ} (d : ℕ)
+    → Along (replicate limit x) k j r a → k ≤ limit → k < length b
+    → get_or b d 0 ≡ cond (ltb d k) (get_or a d 0) (peg p d)
+    → get_or (set b k f) d 0 ≡ cond (ltb d k) (along (λ _. x) k j r d) (cond (eqb d k) f (peg p d))
+joined_tower p b x f {k = k} {j} {r} d h hk hb e =
+    elim (ℕ_discrete d k) [
+      | yes s ↦ rw (s, get_or-set_same b k f 0 hb, le-ltb k k (omega arith), eq-eqb k k refl)
+      | no n ↦ elim (dec_lt d k) [
+        | yes l ↦ rw (get_or-set_other b k d f 0 n, e, lt-ltb d k l) (h.is d l ∙ tower_along x k j r hk d l)
+        | no m ↦ rw (get_or-set_other b k d f 0 n, e, le-ltb d k (omega arith), ne_eqb d k n)
+      ]
+    ]
+
+pub pegs_along-pegs-requires : goal.pegs_along-pegs-requires
+pegs_along-pegs-requires c =
+    start_gatherable c.requires.ends c.requires.course_fits.disc_there (rw c.first_peg.ensures (first_peg_fits c.requires.course_fits))
+
+pub pegs_along-requires : goal.pegs_along-requires
+pegs_along-requires c =
+    let fits = c.requires.course_fits in
+    tower_gatherable _ _ _ fits.to_peg (omega arith) fits.from_peg
+
+pub pegs_along-pegs-requires-in-Spreading : goal.pegs_along-pegs-requires-in-Spreading
+pegs_along-pegs-requires-in-Spreading c =
+    goal_gatherable c.requires.ends c.requires.course_fits.disc_there (rw c.last_peg.ensures (last_peg_fits c.requires.course_fits))
+
+-- The smaller discs are being gathered.
+pub returns-in-Gathering : goal.returns-in-Gathering
+unfolding stage_peg
+returns-in-Gathering c d l =
+    rw (c.in-Gathering.is, ← c.first_peg.ensures)
+    (joined_along d c.pegs_along-pegs.ensures (c.with_larger.ensures d l))
+
+-- They are being shifted.
+pub returns-in-Shifting : goal.returns-in-Shifting
+unfolding stage_peg
+returns-in-Shifting c d l =
+    rw c.in-Shifting.is
+    (joined_tower c.args.start.now c.with_larger-pegs.result c.args.course.to c.args.course.free d
+    c.pegs_along.ensures
+    (omega (arith, c.requires.course_fits.disc_there, c.requires.ends.within))
+    (omega arith)
+    (c.with_larger-pegs.ensures d l))
+
+-- They are being spread.
+pub returns-in-Spreading : goal.returns-in-Spreading
+unfolding stage_peg
+returns-in-Spreading c d l =
+    rw (c.in-Spreading.is, ← c.last_peg.ensures)
+    (joined_along d c.pegs_along-pegs-in-Spreading.ensures (c.with_larger-in-Spreading.ensures d (omega arith)))
