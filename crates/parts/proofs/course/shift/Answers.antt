@@ -1,0 +1,7 @@
+-- `parts::course::shift` meets its contract: a tower's length, or none. Assumes nothing.
+use borrow.Author.Rules.{rules}
+use Rattle.parts.proofs.course.shift.Goals as goal
+
+pub returns-then-course : goal.returns-then-course
+returns-then-course c =
+    rw c.if-course.true c.length.ensures
