@@ -2,6 +2,7 @@
 ghost use Rattle.std.specs.Prelude.{◌≤◌};
 
 use crate::lines;
+use std::io;
 
 // A task of 60 discs with one peg in each byte from an index up to another.
 fn with_peg(task: [u8; 120], first: usize, end: usize, peg: u8) -> [u8; 120]
@@ -28,35 +29,37 @@ pub fn detour_task() -> [u8; 120] {
     with_peg(task, 60, 119, 0)
 }
 
-fn small() {
-    lines::plan(b"[] to []", b"");
-    lines::plan(b"[0] to [2]", b"\x00\x02");
-    lines::plan(b"[0, 0] to [2, 2]", b"\x00\x00\x02\x02");
-    lines::plan(b"[1, 0] to [0, 1]", b"\x01\x00\x00\x01");
+fn small(rt: &impl Print) -> io::Result<()> {
+    lines::plan(rt, b"[] to []", b"")?;
+    lines::plan(rt, b"[0] to [2]", b"\x00\x02")?;
+    lines::plan(rt, b"[0, 0] to [2, 2]", b"\x00\x00\x02\x02")?;
+    lines::plan(rt, b"[1, 0] to [0, 1]", b"\x01\x00\x00\x01")
 }
 
-fn large() {
-    lines::plan(b"[1, 1, 0] to [0, 0, 1]", b"\x01\x01\x00\x00\x00\x01");
-    lines::plan(b"[1, 1, 0] to [2, 2, 1]", b"\x01\x01\x00\x02\x02\x01");
+fn large(rt: &impl Print) -> io::Result<()> {
+    lines::plan(rt, b"[1, 1, 0] to [0, 0, 1]", b"\x01\x01\x00\x00\x00\x01")?;
+    lines::plan(rt, b"[1, 1, 0] to [2, 2, 1]", b"\x01\x01\x00\x02\x02\x01")?;
     lines::plan(
+        rt,
         b"[0, 1, 2, 0, 0, 1] to [1, 2, 0, 1, 1, 0]",
         b"\x00\x01\x02\x00\x00\x01\x01\x02\x00\x01\x01\x00",
-    );
-    lines::plan(b"60 discs, all 0 to all 2", &tower_task());
+    )?;
+    lines::plan(rt, b"60 discs, all 0 to all 2", &tower_task())
 }
 
-fn gathers() {
+fn gathers(rt: &impl Print) -> io::Result<()> {
     lines::gather(
+        rt,
         b"[2, 1, 1, 2, 2, 1] to peg 1",
         b"\x02\x01\x01\x02\x02\x01",
         1,
-    );
-    lines::gather(b"[] to peg 0", b"", 0);
-    lines::gather(b"60 discs, all 0, to peg 2", &[0u8; 60], 2);
+    )?;
+    lines::gather(rt, b"[] to peg 0", b"", 0)?;
+    lines::gather(rt, b"60 discs, all 0, to peg 2", &[0u8; 60], 2)
 }
 
-pub fn all() {
-    small();
-    large();
-    gathers();
+pub fn all(rt: &impl Print) -> io::Result<()> {
+    small(rt)?;
+    large(rt)?;
+    gathers(rt)
 }

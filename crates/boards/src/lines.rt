@@ -6,32 +6,39 @@ use board::Verdict;
 use checker::Checked;
 use run::Ran;
 use show::text;
+use std::io;
 
-fn heading(call: &[u8], name: &[u8]) {
-    text(call);
-    text(name);
-    text(b": ");
+fn heading(rt: &impl Print, call: &[u8], name: &[u8]) -> io::Result<()> {
+    text(rt, call)?;
+    text(rt, name)?;
+    text(rt, b": ")
 }
 
 // The answer of Plan.
-pub fn plan(name: &[u8], task: &[u8]) {
-    heading(b"plan ", name);
-    show::planned(plan::plan(task));
-    text(b"\n");
+pub fn plan(rt: &impl Print, name: &[u8], task: &[u8]) -> io::Result<()> {
+    heading(rt, b"plan ", name)?;
+    show::planned(rt, plan::plan(task))?;
+    text(rt, b"\n")
 }
 
 // The answer of Gather.
-pub fn gather(name: &[u8], position: &[u8], peg: u8) {
-    heading(b"gather ", name);
-    show::gathered(plan::gather(position, peg));
-    text(b"\n");
+pub fn gather(rt: &impl Print, name: &[u8], position: &[u8], peg: u8) -> io::Result<()> {
+    heading(rt, b"gather ", name)?;
+    show::gathered(rt, plan::gather(position, peg))?;
+    text(rt, b"\n")
 }
 
 // The answer of Move.
-pub fn move_at(name: &[u8], task: &[u8], route: u64, index: u64) {
-    heading(b"move ", name);
-    show::moving(route::move_at(task, route, index));
-    text(b"\n");
+pub fn move_at(
+    rt: &impl Print,
+    name: &[u8],
+    task: &[u8],
+    route: u64,
+    index: u64,
+) -> io::Result<()> {
+    heading(rt, b"move ", name)?;
+    show::moving(rt, route::move_at(task, route, index))?;
+    text(rt, b"\n")
 }
 
 // The calls that write into a buffer.
@@ -42,110 +49,164 @@ enum Writes {
     Parts,
 }
 
-fn place_into(task: &[u8], route: u64, index: u64, buffer: &mut [u8]) {
+fn place_into(
+    rt: &impl Print,
+    task: &[u8],
+    route: u64,
+    index: u64,
+    buffer: &mut [u8],
+) -> io::Result<()> {
     let answer = route::place(task, route, index, buffer);
-    show::placed(answer, buffer);
-    text(b"\n");
+    show::placed(rt, answer, buffer)?;
+    text(rt, b"\n")
 }
 
-fn run_into(task: &[u8], route: u64, first: u64, buffer: &mut [u8]) {
+fn run_into(
+    rt: &impl Print,
+    task: &[u8],
+    route: u64,
+    first: u64,
+    buffer: &mut [u8],
+) -> io::Result<()> {
     let answer = run::run(task, route, first, buffer);
-    show::ran(answer, buffer);
-    text(b"\n");
+    show::ran(rt, answer, buffer)?;
+    text(rt, b"\n")
 }
 
-fn parts_into(task: &[u8], route: u64, first: u64, buffer: &mut [u8]) {
+fn parts_into(
+    rt: &impl Print,
+    task: &[u8],
+    route: u64,
+    first: u64,
+    buffer: &mut [u8],
+) -> io::Result<()> {
     let answer = parts::parts(task, route, first, buffer);
-    show::ran(answer, buffer);
-    text(b"\n");
+    show::ran(rt, answer, buffer)?;
+    text(rt, b"\n")
 }
 
-fn write_into(call: Writes, task: &[u8], route: u64, index: u64, buffer: &mut [u8]) {
+fn write_into(
+    rt: &impl Print,
+    call: Writes,
+    task: &[u8],
+    route: u64,
+    index: u64,
+    buffer: &mut [u8],
+) -> io::Result<()> {
     match call {
-        Writes::Place => place_into(task, route, index, buffer),
-        Writes::Run => run_into(task, route, index, buffer),
-        Writes::Parts => parts_into(task, route, index, buffer),
+        Writes::Place => place_into(rt, task, route, index, buffer),
+        Writes::Run => run_into(rt, task, route, index, buffer),
+        Writes::Parts => parts_into(rt, task, route, index, buffer),
     }
 }
 
 // The answer of such a call, and its buffer of so many bytes, which comes filled with dots.
-fn write(call: Writes, task: &[u8], route: u64, index: u64, room: usize)
+fn write(
+    rt: &impl Print,
+    call: Writes,
+    task: &[u8],
+    route: u64,
+    index: u64,
+    room: usize,
+) -> io::Result<()>
     requires { room ≤ 64 }
 {
-    write_into(call, task, route, index, &mut [b'.'; 64][..room]);
+    write_into(rt, call, task, route, index, &mut [b'.'; 64][..room])
 }
 
 // The answer of Place, and its buffer.
-pub fn place(name: &[u8], task: &[u8], route: u64, index: u64, room: usize)
+pub fn place(
+    rt: &impl Print,
+    name: &[u8],
+    task: &[u8],
+    route: u64,
+    index: u64,
+    room: usize,
+) -> io::Result<()>
     requires { room ≤ 64 }
 {
-    heading(b"place ", name);
-    write(Writes::Place, task, route, index, room);
+    heading(rt, b"place ", name)?;
+    write(rt, Writes::Place, task, route, index, room)
 }
 
 // The answer of Run, and its buffer.
-pub fn run(name: &[u8], task: &[u8], route: u64, first: u64, room: usize)
+pub fn run(
+    rt: &impl Print,
+    name: &[u8],
+    task: &[u8],
+    route: u64,
+    first: u64,
+    room: usize,
+) -> io::Result<()>
     requires { room ≤ 64 }
 {
-    heading(b"run ", name);
-    write(Writes::Run, task, route, first, room);
+    heading(rt, b"run ", name)?;
+    write(rt, Writes::Run, task, route, first, room)
 }
 
 // The answer of Parts, and its buffer.
-pub fn parts(name: &[u8], task: &[u8], route: u64, first: u64, room: usize)
+pub fn parts(
+    rt: &impl Print,
+    name: &[u8],
+    task: &[u8],
+    route: u64,
+    first: u64,
+    room: usize,
+) -> io::Result<()>
     requires { room ≤ 64 }
 {
-    heading(b"parts ", name);
-    write(Writes::Parts, task, route, first, room);
+    heading(rt, b"parts ", name)?;
+    write(rt, Writes::Parts, task, route, first, room)
 }
 
 // The answer of Locate.
-pub fn locate(name: &[u8], task: &[u8], position: &[u8]) {
-    heading(b"locate ", name);
-    show::located(route::locate(task, position));
-    text(b"\n");
+pub fn locate(rt: &impl Print, name: &[u8], task: &[u8], position: &[u8]) -> io::Result<()> {
+    heading(rt, b"locate ", name)?;
+    show::located(rt, route::locate(task, position))?;
+    text(rt, b"\n")
 }
 
 // What an entry holds before the call, which no call writes.
 const UNWRITTEN: u64 = 9223372036854775808;
 
 // An entry, or a dot for one that was not written.
-fn entry(number: u64) {
+fn entry(rt: &impl Print, number: u64) -> io::Result<()> {
     if number == UNWRITTEN {
-        text(b" .");
+        text(rt, b" .")
     } else {
-        show::named(b" ", number);
+        show::named(rt, b" ", number)
     }
 }
 
-fn entries(buffer: &[u64]) {
+fn entries(rt: &impl Print, buffer: &[u64]) -> io::Result<()> {
     let mut i = 0;
     while i < buffer.len() {
-        entry(buffer[i]);
+        entry(rt, buffer[i])?;
         i += 1;
     }
+    Ok(())
 }
 
 // A refused call, too, shows its buffer.
-fn batch_into(n: u64, tasks: &[u8], buffer: &mut [u64]) {
+fn batch_into(rt: &impl Print, n: u64, tasks: &[u8], buffer: &mut [u64]) -> io::Result<()> {
     match batch::batch(n, tasks, buffer) {
-        Batched::Tasks(count) => show::number(count as u64),
-        Batched::Refused(why) => show::named(b"refused ", why.number()),
+        Batched::Tasks(count) => show::number(rt, count as u64)?,
+        Batched::Refused(why) => show::named(rt, b"refused ", why.number())?,
     }
-    text(b":");
-    entries(buffer);
-    text(b"\n");
+    text(rt, b":")?;
+    entries(rt, buffer)?;
+    text(rt, b"\n")
 }
 
 // A refused call, too, shows its buffer.
-fn wear_into(task: &[u8], route: u64, buffer: &mut [u64]) {
+fn wear_into(rt: &impl Print, task: &[u8], route: u64, buffer: &mut [u64]) -> io::Result<()> {
     match wear::wear(task, route, buffer) {
-        Verdict::Accepted => text(b"accepted"),
-        Verdict::Refused(why) => show::named(b"refused ", why.number()),
+        Verdict::Accepted => text(rt, b"accepted")?,
+        Verdict::Refused(why) => show::named(rt, b"refused ", why.number())?,
     }
-    text(b":");
-    entries(buffer);
-    text(b"\n");
+    text(rt, b":")?;
+    entries(rt, buffer)?;
+    text(rt, b"\n")
 }
 
 // The calls that write numbers of 64 bits.
@@ -155,63 +216,68 @@ enum Counts {
     Wear,
 }
 
-fn count_into(call: Counts, bytes: &[u8], number: u64, buffer: &mut [u64]) {
+fn count_into(
+    rt: &impl Print,
+    call: Counts,
+    bytes: &[u8],
+    number: u64,
+    buffer: &mut [u64],
+) -> io::Result<()> {
     match call {
-        Counts::Batch => batch_into(number, bytes, buffer),
-        Counts::Wear => wear_into(bytes, number, buffer),
+        Counts::Batch => batch_into(rt, number, bytes, buffer),
+        Counts::Wear => wear_into(rt, bytes, number, buffer),
     }
 }
 
 // The answer of such a call, and its buffer of so many entries.
-fn count(call: Counts, bytes: &[u8], number: u64, room: usize)
+fn count(rt: &impl Print, call: Counts, bytes: &[u8], number: u64, room: usize) -> io::Result<()>
     requires { room ≤ 64 }
 {
-    count_into(call, bytes, number, &mut [UNWRITTEN; 64][..room]);
+    count_into(rt, call, bytes, number, &mut [UNWRITTEN; 64][..room])
 }
 
 // The answer of Batch, and its buffer.
-pub fn batch(name: &[u8], n: u64, tasks: &[u8], room: usize)
+pub fn batch(rt: &impl Print, name: &[u8], n: u64, tasks: &[u8], room: usize) -> io::Result<()>
     requires { room ≤ 64 }
 {
-    heading(b"batch ", name);
-    count(Counts::Batch, tasks, n, room);
+    heading(rt, b"batch ", name)?;
+    count(rt, Counts::Batch, tasks, n, room)
 }
 
 // The answer of Wear, and its buffer.
-pub fn wear(name: &[u8], task: &[u8], route: u64, room: usize)
+pub fn wear(rt: &impl Print, name: &[u8], task: &[u8], route: u64, room: usize) -> io::Result<()>
     requires { room ≤ 64 }
 {
-    heading(b"wear ", name);
-    count(Counts::Wear, task, route, room);
+    heading(rt, b"wear ", name)?;
+    count(rt, Counts::Wear, task, route, room)
 }
 
-fn checked(task: &[u8], letters: &[u8]) {
+fn checked(rt: &impl Print, task: &[u8], letters: &[u8]) -> io::Result<()> {
     match checker::check_route(task, letters) {
-        Checked::Route(number) => show::named(b"route ", number),
-        Checked::Refused(why) => show::named(b"refused ", why.number()),
+        Checked::Route(number) => show::named(rt, b"route ", number)?,
+        Checked::Refused(why) => show::named(rt, b"refused ", why.number())?,
     }
-    text(b"\n");
+    text(rt, b"\n")
 }
 
 // The answer of the checker.
-pub fn check(name: &[u8], task: &[u8], letters: &[u8]) {
-    heading(b"check ", name);
-    checked(task, letters);
+pub fn check(rt: &impl Print, name: &[u8], task: &[u8], letters: &[u8]) -> io::Result<()> {
+    heading(rt, b"check ", name)?;
+    checked(rt, task, letters)
 }
 
 // Its answer to what Run writes of a route of at most 64 moves.
-pub fn check_run(name: &[u8], task: &[u8], route: u64) {
-    heading(b"check ", name);
+pub fn check_run(rt: &impl Print, name: &[u8], task: &[u8], route: u64) -> io::Result<()> {
+    heading(rt, b"check ", name)?;
     let mut letters = [0u8; 128];
     match run::run(task, route, 0, &mut letters) {
         Ran::Moves(count) => {
             if 64 < count {
-                text(b"long\n");
-                return;
+                return text(rt, b"long\n");
             }
             let end = 2 * count;
-            checked(task, &letters[..end]);
+            checked(rt, task, &letters[..end])
         }
-        Ran::Refused(_) => text(b"not written\n"),
+        Ran::Refused(_) => text(rt, b"not written\n"),
     }
 }

@@ -10,12 +10,14 @@ mod lines;
 mod routes;
 mod wears;
 
-fn main() {
-    boards::all();
-    faults::all();
-    routes::all();
-    letters::all();
-    batches::all();
-    wears::all();
-    checks::all();
+use std::io;
+
+fn main(rt: HostRuntime) -> io::Result<()> {
+    boards::all(&rt)?;
+    faults::all(&rt)?;
+    routes::all(&rt)?;
+    letters::all(&rt)?;
+    batches::all(&rt)?;
+    wears::all(&rt)?;
+    checks::all(&rt)
 }

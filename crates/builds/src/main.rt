@@ -8,9 +8,11 @@ mod say;
 mod sixty;
 mod steps;
 
-fn main() {
-    steps::shown();
-    sixty::towers();
-    edges::refusals();
-    damage::builders();
+use std::io;
+
+fn main(rt: HostRuntime) -> io::Result<()> {
+    steps::shown(&rt)?;
+    sixty::towers(&rt)?;
+    edges::refusals(&rt)?;
+    damage::builders(&rt)
 }

@@ -2,48 +2,49 @@
 use crate::same::{as_gather, same_builder};
 use builder::{Builder, Built};
 use show::{named, text};
+use std::io;
 
 // A builder: its number of discs, its position, and its length for each peg.
-pub fn builder(b: Builder) {
+pub fn builder(rt: &impl Print, b: Builder) -> io::Result<()> {
     let n = b.n;
     let position = b.position;
     let lengths = b.lengths;
-    named(b"n ", n as u64);
-    show::held(b", position ", n, position);
-    named(b", A ", lengths[0]);
-    named(b", B ", lengths[1]);
-    named(b", C ", lengths[2]);
+    named(rt, b"n ", n as u64)?;
+    show::held(rt, b", position ", n, position)?;
+    named(rt, b", A ", lengths[0])?;
+    named(rt, b", B ", lengths[1])?;
+    named(rt, b", C ", lengths[2])
 }
 
 // The answer to a change and what it left. Answers the builder after it.
-fn change(before: Builder, built: Built) -> Builder {
+fn change(rt: &impl Print, before: Builder, built: Built) -> io::Result<Builder> {
     let verdict = built.verdict;
     let after = built.builder;
-    show::verdict(verdict);
+    show::verdict(rt, verdict)?;
     if same_builder(before, after) {
-        text(b", unchanged\n");
-        return after;
+        text(rt, b", unchanged\n")?;
+        return Ok(after);
     }
-    text(b", ");
-    builder(after);
+    text(rt, b", ")?;
+    builder(rt, after)?;
     if as_gather(after) {
-        text(b", as Gather\n");
+        text(rt, b", as Gather\n")?;
     } else {
-        text(b", not as Gather\n");
+        text(rt, b", not as Gather\n")?;
     }
-    after
+    Ok(after)
 }
 
 // Adds a disc, and writes the answer.
-pub fn add(b: Builder, peg: u8) -> Builder {
-    text(b"add ");
-    show::peg(peg);
-    text(b": ");
-    change(b, builder::add(b, peg))
+pub fn add(rt: &impl Print, b: Builder, peg: u8) -> io::Result<Builder> {
+    text(rt, b"add ")?;
+    show::peg(rt, peg)?;
+    text(rt, b": ")?;
+    change(rt, b, builder::add(b, peg))
 }
 
 // Removes a disc, and writes the answer.
-pub fn remove(b: Builder) -> Builder {
-    text(b"remove: ");
-    change(b, builder::remove(b))
+pub fn remove(rt: &impl Print, b: Builder) -> io::Result<Builder> {
+    text(rt, b"remove: ")?;
+    change(rt, b, builder::remove(b))
 }

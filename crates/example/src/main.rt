@@ -6,86 +6,92 @@ mod own;
 use board::Verdict;
 use plan::Planned;
 use session::{Played, Reported, Session};
+use std::io;
 
-fn main() {
+fn main(rt: HostRuntime) -> io::Result<()> {
     let task = b"\x01\x00\x00\x01"; // [1, 0] to [0, 1]: the start's pegs, smallest disc first, then the goal's
-    fewest(task);
-    session_on(task);
+    fewest(&rt, task)?;
+    session_on(&rt, task)?;
     let odd = b"\x01\x00\x00";
-    session_on(odd);
-    overlooked(odd);
-    proved(task);
+    session_on(&rt, odd)?;
+    overlooked(&rt, odd)?;
+    proved(&rt, task)
 }
 
 // The fewest moves, and how many shortest routes there are.
-fn fewest(task: &[u8]) {
+fn fewest(rt: &impl Print, task: &[u8]) -> io::Result<()> {
     match plan::plan(task) {
         Planned::Plan(p) => {
-            show::named(b"fewest ", p.shortest());
-            show::named(b", routes ", p.routes());
-            show::text(b"\n");
+            show::named(rt, b"fewest ", p.shortest())?;
+            show::named(rt, b", routes ", p.routes())?;
+            show::text(rt, b"\n")
         }
-        Planned::Refused(why) => refusal(why.number()),
+        Planned::Refused(why) => refusal(rt, why.number()),
     }
 }
 
 // A session on a task, or the number of its fault.
-fn session_on(task: &[u8]) {
+fn session_on(rt: &impl Print, task: &[u8]) -> io::Result<()> {
     let begun = session::begin(task);
     let verdict = begun.verdict; // a field that is an enum is copied before it is matched or passed
     match verdict {
-        Verdict::Refused(why) => refusal(why.number()),
-        Verdict::Accepted => plays(begun.session),
+        Verdict::Refused(why) => refusal(rt, why.number()),
+        Verdict::Accepted => plays(rt, begun.session),
     }
 }
 
 // The subject moves a disc from B to C, and then tries to move one from B, which is empty.
-fn plays(record: Session) {
+fn plays(rt: &impl Print, record: Session) -> io::Result<()> {
     let first = session::step(record, 1, 2);
     let marked = first.played;
-    answer(marked);
+    answer(rt, marked)?;
     let second = session::step(first.session, 1, 0);
     let refused = second.played;
-    answer(refused);
-    report(second.session);
+    answer(rt, refused)?;
+    report(rt, second.session)
 }
 
 // Toward, level or away, or refused with 8 where the peg is empty.
-fn answer(played: Played) {
-    show::played(played);
-    show::text(b"\n");
+fn answer(rt: &impl Print, played: Played) -> io::Result<()> {
+    show::played(rt, played)?;
+    show::text(rt, b"\n")
 }
 
-fn report(record: Session) {
+fn report(rt: &impl Print, record: Session) -> io::Result<()> {
     match session::report(record) {
         Reported::Report(figures) => {
-            show::named(b"remaining ", figures.remaining);
-            show::named(b", excess ", figures.excess);
-            show::named(b", fumbles ", record.fumbles);
-            show::text(b"\n");
+            show::named(rt, b"remaining ", figures.remaining)?;
+            show::named(rt, b", excess ", figures.excess)?;
+            show::named(rt, b", fumbles ", record.fumbles)?;
+            show::text(rt, b"\n")
         }
-        Reported::Refused(why) => refusal(why.number()),
+        Reported::Refused(why) => refusal(rt, why.number()),
     }
 }
 
-fn refusal(number: u64) {
-    show::named(b"refused ", number);
-    show::text(b"\n");
+fn refusal(rt: &impl Print, number: u64) -> io::Result<()> {
+    show::named(rt, b"refused ", number)?;
+    show::text(rt, b"\n")
 }
 
 // Who overlooks that Begin refused holds a record that is not sound, and gets 10.
-fn overlooked(task: &[u8]) {
+fn overlooked(rt: &impl Print, task: &[u8]) -> io::Result<()> {
     let begun = session::begin(task);
-    report(begun.session);
+    report(rt, begun.session)
 }
 
 // Functions of one's own, with contracts that follow from the library's laws.
-fn proved(task: &[u8]) {
-    show::named(b"fewest of ", own::fewest_of(task));
-    show::text(b"\n");
-    show::named(b"remaining after ", own::remaining_after(task, b"\x01\x02"));
-    show::text(b"\n");
+fn proved(rt: &impl Print, task: &[u8]) -> io::Result<()> {
+    show::named(rt, b"fewest of ", own::fewest_of(task))?;
+    show::text(rt, b"\n")?;
+    show::named(
+        rt,
+        b"remaining after ",
+        own::remaining_after(task, b"\x01\x02"),
+    )?;
+    show::text(rt, b"\n")?;
     if own::leads_back(task, 1, 2) {
-        show::text(b"leads back\n");
+        show::text(rt, b"leads back\n")?;
     }
+    Ok(())
 }

@@ -4,25 +4,26 @@
 
 use averages::Totalled;
 use show::{named, text};
+use std::io;
 
-fn main() {
+fn main(rt: HostRuntime) -> io::Result<()> {
     let mut n = 0;
     while n < 18 {
-        line(n);
+        line(&rt, n)?;
         n += 1;
     }
-    line(18446744073709551615);
+    line(&rt, 18446744073709551615)
 }
 
 // The line of a size.
-fn line(n: u64) {
-    show::number(n);
+fn line(rt: &impl Print, n: u64) -> io::Result<()> {
+    show::number(rt, n)?;
     match averages::totals(n) {
         Totalled::Totals(totals) => {
-            named(b" discs: sum ", totals.sum);
-            named(b", ties ", totals.ties);
+            named(rt, b" discs: sum ", totals.sum)?;
+            named(rt, b", ties ", totals.ties)?;
         }
-        Totalled::Refused(why) => named(b" discs: refused ", why.number()),
+        Totalled::Refused(why) => named(rt, b" discs: refused ", why.number())?,
     }
-    text(b"\n");
+    text(rt, b"\n")
 }

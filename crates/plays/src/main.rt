@@ -11,13 +11,15 @@ mod say;
 mod tasks;
 mod whole;
 
-fn main() {
-    boards::marks();
-    whole::route();
-    excess::reports();
-    tasks::verdicts();
-    fumbles::refusals();
-    damage::records();
-    limit::plays();
-    limit::fumbles();
+use std::io;
+
+fn main(rt: HostRuntime) -> io::Result<()> {
+    boards::marks(&rt)?;
+    whole::route(&rt)?;
+    excess::reports(&rt)?;
+    tasks::verdicts(&rt)?;
+    fumbles::refusals(&rt)?;
+    damage::records(&rt)?;
+    limit::plays(&rt)?;
+    limit::fumbles(&rt)
 }

@@ -36,33 +36,35 @@ mod walking;
 mod wearing;
 
 use show::named;
+use std::io;
 use tally::Tally;
 use totalling::compared;
 
-fn main() {
+fn main(rt: HostRuntime) -> io::Result<()> {
     let mut n = 0;
     while n < 7 {
-        write_line(n, compared(pairs::all_pairs(n), n));
+        write_line(&rt, n, compared(pairs::all_pairs(n), n))?;
         n += 1;
     }
+    Ok(())
 }
 
 // Writes the line of a size.
-fn write_line(n: usize, t: Tally) {
-    show::number(n as u64);
-    named(b" discs: pairs ", t.pairs);
-    named(b", sum ", t.sum);
-    named(b", ties ", t.ties);
-    named(b", lengths ", t.lengths);
-    named(b", counts ", t.counts);
-    named(b", routes ", t.routes);
-    named(b", parts ", t.parts);
-    named(b", wears ", t.wears);
-    named(b", known ", t.known);
-    named(b", lists ", t.lists);
-    named(b", moves ", t.moves);
-    named(b", located ", t.located);
-    named(b", totals ", t.totals);
-    named(b", wrong ", t.wrong);
-    show::text(b"\n");
+fn write_line(rt: &impl Print, n: usize, t: Tally) -> io::Result<()> {
+    show::number(rt, n as u64)?;
+    named(rt, b" discs: pairs ", t.pairs)?;
+    named(rt, b", sum ", t.sum)?;
+    named(rt, b", ties ", t.ties)?;
+    named(rt, b", lengths ", t.lengths)?;
+    named(rt, b", counts ", t.counts)?;
+    named(rt, b", routes ", t.routes)?;
+    named(rt, b", parts ", t.parts)?;
+    named(rt, b", wears ", t.wears)?;
+    named(rt, b", known ", t.known)?;
+    named(rt, b", lists ", t.lists)?;
+    named(rt, b", moves ", t.moves)?;
+    named(rt, b", located ", t.located)?;
+    named(rt, b", totals ", t.totals)?;
+    named(rt, b", wrong ", t.wrong)?;
+    show::text(rt, b"\n")
 }

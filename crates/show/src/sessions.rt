@@ -2,72 +2,73 @@
 use crate::words::{digits, named, refused, text};
 use board::{LIMIT, Verdict};
 use session::{Counts, Figures, Mark, Played, Reported, Session};
+use std::io;
 
 // Begin's verdict.
-pub fn verdict(answer: Verdict) {
+pub fn verdict(rt: &impl Print, answer: Verdict) -> io::Result<()> {
     match answer {
-        Verdict::Accepted => text(b"accepted"),
-        Verdict::Refused(why) => refused(why),
+        Verdict::Accepted => text(rt, b"accepted"),
+        Verdict::Refused(why) => refused(rt, why),
     }
 }
 
-fn mark(of: Mark) {
+fn mark(rt: &impl Print, of: Mark) -> io::Result<()> {
     match of {
-        Mark::Toward => text(b"toward"),
-        Mark::Level => text(b"level"),
-        Mark::Away => text(b"away"),
+        Mark::Toward => text(rt, b"toward"),
+        Mark::Level => text(rt, b"level"),
+        Mark::Away => text(rt, b"away"),
     }
 }
 
-pub fn played(answer: Played) {
+pub fn played(rt: &impl Print, answer: Played) -> io::Result<()> {
     match answer {
-        Played::Marked(of) => mark(of),
-        Played::Refused(why) => refused(why),
+        Played::Marked(of) => mark(rt, of),
+        Played::Refused(why) => refused(rt, why),
     }
 }
 
-fn counts(c: Counts) {
-    named(b"made ", c.made);
-    named(b", toward ", c.toward);
-    named(b", level ", c.level);
-    named(b", away ", c.away);
+fn counts(rt: &impl Print, c: Counts) -> io::Result<()> {
+    named(rt, b"made ", c.made)?;
+    named(rt, b", toward ", c.toward)?;
+    named(rt, b", level ", c.level)?;
+    named(rt, b", away ", c.away)
 }
 
-fn figures(f: Figures) {
-    counts(f.counts);
-    named(b", remaining ", f.remaining);
-    named(b", excess ", f.excess);
+fn figures(rt: &impl Print, f: Figures) -> io::Result<()> {
+    counts(rt, f.counts)?;
+    named(rt, b", remaining ", f.remaining)?;
+    named(rt, b", excess ", f.excess)
 }
 
-pub fn reported(answer: Reported) {
+pub fn reported(rt: &impl Print, answer: Reported) -> io::Result<()> {
     match answer {
-        Reported::Report(f) => figures(f),
-        Reported::Refused(why) => refused(why),
+        Reported::Report(f) => figures(rt, f),
+        Reported::Refused(why) => refused(rt, why),
     }
 }
 
 // A position of n discs as a record holds it, or the whole array where n is more than there can be.
-pub fn held(name: &[u8], n: usize, position: [u8; LIMIT]) {
-    text(name);
+pub fn held(rt: &impl Print, name: &[u8], n: usize, position: [u8; LIMIT]) -> io::Result<()> {
+    text(rt, name)?;
     if n <= LIMIT {
-        digits(&position[..n]);
+        digits(rt, &position[..n])
     } else {
-        digits(&position);
+        digits(rt, &position)
     }
 }
 
 // A session record, field by field, each position by its n discs.
-pub fn record(s: Session) {
+pub fn record(rt: &impl Print, s: Session) -> io::Result<()> {
     let n = s.n;
     let start = s.start;
     let goal = s.goal;
     let current = s.current;
-    named(b"n ", n as u64);
-    held(b", start ", n, start);
-    held(b", goal ", n, goal);
-    held(b", current ", n, current);
-    text(b", ");
-    counts(s.counts);
-    named(b", fumbles ", s.fumbles);
-    named(b", remaining ", s.remaining);
+    named(rt, b"n ", n as u64)?;
+    held(rt, b", start ", n, start)?;
+    held(rt, b", goal ", n, goal)?;
+    held(rt, b", current ", n, current)?;
+    text(rt, b", ")?;
+    counts(rt, s.counts)?;
+    named(rt, b", fumbles ", s.fumbles)?;
+    named(rt, b", remaining ", s.remaining)
 }

@@ -1,48 +1,50 @@
 // Text, numbers, pegs and refusals.
 use board::Refusal;
+use std::io;
 
-pub fn text(bytes: &[u8]) {
-    io::write_all(1, bytes);
+pub fn text(rt: &impl Print, bytes: &[u8]) -> io::Result<()> {
+    rt.write_all(bytes)
 }
 
-pub fn number(n: u64) {
-    io::print_decimal(1, n);
+pub fn number(rt: &impl Print, n: u64) -> io::Result<()> {
+    rt.print(n)
 }
 
 // A number after its name.
-pub fn named(name: &[u8], n: u64) {
-    text(name);
-    number(n);
+pub fn named(rt: &impl Print, name: &[u8], n: u64) -> io::Result<()> {
+    text(rt, name)?;
+    number(rt, n)
 }
 
-pub fn refused(why: Refusal) {
-    named(b"refused ", why.number());
+pub fn refused(rt: &impl Print, why: Refusal) -> io::Result<()> {
+    named(rt, b"refused ", why.number())
 }
 
 // A peg's letter, or the number where there is no such peg.
-pub fn peg(p: u8) {
+pub fn peg(rt: &impl Print, p: u8) -> io::Result<()> {
     match p {
-        0 => text(b"A"),
-        1 => text(b"B"),
-        2 => text(b"C"),
-        _ => number(p as u64),
+        0 => text(rt, b"A"),
+        1 => text(rt, b"B"),
+        2 => text(rt, b"C"),
+        _ => number(rt, p as u64),
     }
 }
 
 // A byte of a position, or a dot for any other byte, as a buffer comes filled.
-fn digit(byte: u8) {
+fn digit(rt: &impl Print, byte: u8) -> io::Result<()> {
     match byte {
-        0 => text(b"0"),
-        1 => text(b"1"),
-        2 => text(b"2"),
-        _ => text(b"."),
+        0 => text(rt, b"0"),
+        1 => text(rt, b"1"),
+        2 => text(rt, b"2"),
+        _ => text(rt, b"."),
     }
 }
 
-pub fn digits(bytes: &[u8]) {
+pub fn digits(rt: &impl Print, bytes: &[u8]) -> io::Result<()> {
     let mut i = 0;
     while i < bytes.len() {
-        digit(bytes[i]);
+        digit(rt, bytes[i])?;
         i += 1;
     }
+    Ok(())
 }

@@ -1,8 +1,10 @@
 // An input's name, and what the task program answers to it.
-pub fn answer_to(name: &[u8], input: &[u8]) {
+use std::io;
+
+pub fn answer_to(rt: &impl Print, name: &[u8], input: &[u8]) -> io::Result<()> {
     let mut page = [0; 8192];
     let end = text::answer(input, &mut page);
-    show::text(name);
-    show::text(b":\n");
-    show::text(&page[..end]);
+    show::text(rt, name)?;
+    show::text(rt, b":\n")?;
+    show::text(rt, &page[..end])
 }
