@@ -12,8 +12,8 @@ SANITIZE = -fsanitize=address,undefined -fno-sanitize-recover=all
 VALGRIND = valgrind --quiet --error-exitcode=1 --leak-check=full
 C = $(CC) -std=c99 $(WARNINGS) -D_DEFAULT_SOURCE -Iinclude -Itests
 
-LIBRARY = target/staticlib/libtowers.a
-PACE = target/staticlib/libpace.a
+LIBRARY = crates/towers/out/libtowers.a
+PACE = crates/pace/out/libpace.a
 HEADER = include/towers.h
 OUT = target/c
 
@@ -117,4 +117,4 @@ uninstall:
 
 clean:
 	rm -rf $(OUT)
-	$(SAY) "make: what is proved stays in target/, with the archive and the programs; rm -rf target removes that too"
+	$(SAY) "make: what is proved stays in crates/*/out, with the archives and the programs; rm -rf crates/*/out removes that too"

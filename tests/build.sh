@@ -22,22 +22,25 @@ $2"
 }
 
 mkdir -p crates/under/src crates/under/must-fail crates/task/src crates/towers/src || exit 2
-printf 'task: under io\ntowers: under\nunder: # nothing\n' >crates.txt
+printf 'task: under io\ntowers staticlib: under\nunder: # nothing\n' >crates.txt
 touch crates/under/src/lib.rt crates/under/must-fail/wrong.edit crates/towers/src/lib.rt crates/task/src/main.rt
 
-# Fails where another one is at work, or, with a file `broken`, always; writes down what it was asked for.
+# Fails where another one is at work, or, with a file `broken`, always; writes down what it was asked for, and in which crate's folder.
 cat >rt <<'END'
 #!/bin/sh
-echo "$*" >>asked
+crate=${PWD##*/crates/}
+cd "$(dirname "$0")" || exit 2
+echo "$* $crate" >>asked
 mkdir at-work || exit 1
 sleep 0.5
 rmdir at-work
 echo "rt: it is as it is: $(cat)"
 [ ! -e broken ] || exit 3
-mkdir -p target/bin target/staticlib
-case $* in
-"check task") printf '#!/bin/sh\necho answered\n' >target/bin/task && chmod +x target/bin/task ;;
-"staticlib towers") : >target/staticlib/libtowers.a ;;
+mkdir -p "crates/$crate/out"
+: >"crates/$crate/out/newer"
+case "$* $crate" in
+"run task") printf '#!/bin/sh\necho answered\n' >crates/task/out/task && chmod +x crates/task/out/task ;;
+"lib towers") : >crates/towers/out/libtowers.a ;;
 esac
 END
 chmod +x rt || exit 2
@@ -56,19 +59,19 @@ make library >said/make 2>&1 &
 while [ ! -e asked ] && kill -0 $! 2>/dev/null; do sleep 0.05; done
 is answered "$(./tower 2>said/tower </dev/null)" "./tower beside make"
 wait $! || fail "make beside ./tower failed"
-is "check under
-staticlib towers
-check under
-check task" "$(cat asked)" "what rt was asked"
-is "build: proving and building target/staticlib/libtowers.a; this takes some minutes the first time; what the prover says goes to target/build/towers.log
+is "lib under
+lib towers
+lib under
+run task" "$(cat asked)" "what rt was asked"
+is "build: proving and building crates/towers/out/libtowers.a; this takes some minutes the first time; what the prover says goes to target/build/towers.log
 build: proving under (1 of 2)
 build: proving towers (2 of 2)
-build: target/staticlib/libtowers.a is built" "$(cat said/make)" "make said"
+build: crates/towers/out/libtowers.a is built" "$(cat said/make)" "make said"
 is "build: another build is at work in this folder; waiting for it
-build: proving and building target/bin/task; this takes some minutes the first time; what the prover says goes to target/build/task.log
+build: proving and building crates/task/out/task; this takes some minutes the first time; what the prover says goes to target/build/task.log
 build: proving under (1 of 2)
 build: proving task (2 of 2)
-build: target/bin/task is built" "$(cat said/tower)" "./tower said"
+build: crates/task/out/task is built" "$(cat said/tower)" "./tower said"
 is "rt: it is as it is: 
 rt: it is as it is: " "$(cat target/build/task.log)" "the prover's words"
 
@@ -85,18 +88,19 @@ make -s library >said/quiet 2>&1 || fail "make -s failed"
 is '' "$(cat said/quiet)" "make -s said"
 is 6 "$(wc -l <asked)" "calls of rt after a change"
 rm -r crates/under
-tools/build -q towers 2>said/gone
-is 8 "$(wc -l <asked)" "calls of rt after a crate is gone"
-mkdir -p crates/under/src && rm target/bin/task
+tools/build -q towers 2>said/gone && fail "a crate that is gone is not missed"
+is 6 "$(wc -l <asked)" "calls of rt after a crate is gone"
+is "build: crates/towers/out/libtowers.a was not built: crates/under failed; what the prover said is at the end of target/build/towers.log" "$(tail -n 1 said/gone)" "a crate that is gone said"
+mkdir -p crates/under/src && rm crates/task/out/task
 tools/build -q task || fail "what was removed is not built again"
-[ -x target/bin/task ] || fail "what was removed is not there"
+[ -x crates/task/out/task ] || fail "what was removed is not there"
 
 # A failure is passed on, and its log is named.
 touch broken crates.txt
 tools/build -q task 2>said/broken
 is 3 $? "the status of a build that fails"
 is "rt: it is as it is: 
-build: target/bin/task was not built; what the prover said is at the end of target/build/task.log" "$(cat said/broken)" "a failure said"
+build: crates/task/out/task was not built: crates/under failed; what the prover said is at the end of target/build/task.log" "$(cat said/broken)" "a failure said"
 rm broken
 tools/build -q task || fail "after a failure nothing is built"
 tools/build -q none 2>said/none
