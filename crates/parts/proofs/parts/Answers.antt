@@ -1,7 +1,6 @@
 -- `parts::parts` meets its contract: the plan is opened for the list, and the bytes written are the letters of the parts. Assumes nothing.
 use mathlib.Core.Path.{◌∙◌, refl, sym, ap}
 use native.Mathlib.Omega.{arith}
-use borrow.Author.Rules.{rules}
 use lib.ListN.{length, length-take}
 use Rattle.plan.specs.Answer.{plan_reply}
 use Rattle.plan.proofs.Parts.{part_to_end}

@@ -2,7 +2,6 @@
 use Prim.Native.Nat.{◌-◌, ◌≤◌, ◌<◌}
 use mathlib.Core.Path.{◌≡◌, refl}
 use native.Mathlib.Omega.{arith}
-use borrow.Author.Rules.{rules}
 use Rattle.plan.specs.Plan.{plan_of, shortest}
 use Rattle.route.specs.Inner.Stage.{course_of, course_parts}
 use Rattle.route.specs.Part.{parts_of}

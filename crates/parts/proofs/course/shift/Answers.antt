@@ -1,5 +1,4 @@
 -- `parts::course::shift` meets its contract: a tower's length, or none. Assumes nothing.
-use borrow.Author.Rules.{rules}
 use Rattle.parts.proofs.course.shift.Goals as goal
 
 pub returns-then-course : goal.returns-then-course

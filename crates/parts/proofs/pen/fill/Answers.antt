@@ -1,11 +1,10 @@
 -- `parts::pen::fill` meets its contract. The loop's invariant: the first i bytes are the byte, the others as they stood. The measure is
 -- what is left of the buffer. Assumes nothing.
-use Prim.Native.Nat.{◌-◌, ◌≤◌}
-use mathlib.Core.List.{◌++◌, append-nil}
-use mathlib.Core.Path.{◌≡◌, refl}
+use mathlib.Core.List.{append-nil}
+use mathlib.Core.Path.{◌≡◌}
 use native.Mathlib.Omega.{arith}
 use borrow.Author.Fill.{fill_more}
-use lib.ListN.{length, drop, replicate, length-set, drop_of_length-le}
+use lib.ListN.{length, length-set, drop_of_length-le}
 use Rattle.parts.proofs.pen.fill.Goals as goal
 
 -- One more byte is filled.
@@ -13,10 +12,6 @@ pub loop-i-preserved : goal.loop-i-preserved
 loop-i-preserved c =
     let inv = c.loop-i.invariant in
     (omega arith, simp length-set inv.1, rw inv.2 (fill_more c.loop-i.i _ c.args.out.now (omega arith)))
-
-pub UNMAPPED-same-length : goal.UNMAPPED-same-length
-UNMAPPED-same-length c =
-    c.loop-i.invariant.1
 
 -- All of them are.
 pub returns : goal.returns

@@ -1,11 +1,9 @@
 -- `parts::pen::fill` meets its contract. The loop's invariant: the first i bytes are the byte, the others as they stood. The measure is
 -- what is left of the buffer. Assumes nothing.
 use Prim.Native.Nat.{◌-◌, ◌≤◌}
-use mathlib.Core.List.{◌++◌, append-nil}
-use mathlib.Core.Path.{◌≡◌, refl}
-use native.Mathlib.Omega.{arith}
-use borrow.Author.Fill.{fill_more}
-use lib.ListN.{length, drop, replicate, length-set, drop_of_length-le}
+use mathlib.Core.List.{◌++◌}
+use mathlib.Core.Path.{◌≡◌}
+use lib.ListN.{length, drop, replicate}
 use Rattle.parts.proofs.pen.fill.Given as goal
 
 abbrev pub invariant-loop-i : goal.invariant-loop-i

@@ -2,17 +2,15 @@
 -- the entries above, makes up the whole. The measure is d. Assumes nothing.
 use Prim.Native.Nat.{◌+◌, ◌-◌, ◌<◌, ◌^◌}
 use mathlib.Core.Bool.{not}
-use mathlib.Core.List.{◌++◌}
 use mathlib.Core.Logic.{◌≢◌}
 use mathlib.Core.Path.{◌≡◌, ◌∙◌, refl}
 use native.Mathlib.Omega.{arith}
-use borrow.Author.Rules.{rules}
 use lib.Dec.{eqb}
-use lib.ListN.{length, drop, length-set}
+use lib.ListN.{length-set}
 use mir.Val.{bool_byte}
 use Rattle.board.specs.Position.{peg}
 use Rattle.board.proofs.Formed.{formed_pegs}
-use Rattle.wear.specs.Inner.Below.{moves_of, wears_below, Writable}
+use Rattle.wear.specs.Inner.Below.{moves_of, wears_below}
 use Rattle.wear.proofs.Gaps.{moves_counted}
 use Rattle.wear.proofs.Stored.{moves_fit, below_ready, below_stored}
 use Rattle.wear.proofs.writing.write_smaller.Goals as goal
@@ -67,10 +65,6 @@ loop-d-preserved c =
       below_ready inv.1 some c.third-first.ensures c.third-last.ensures (counted),
       below_stored inv.1 some c.third-first.ensures c.third-last.ensures (counted) ∙ inv.2,
     )
-
-pub UNMAPPED-same-length : goal.UNMAPPED-same-length
-UNMAPPED-same-length c =
-    c.loop-d.invariant.0
 
 pub returns : goal.returns
 unfolding wears_below

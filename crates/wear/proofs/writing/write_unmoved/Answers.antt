@@ -1,11 +1,8 @@
 -- `wear::writing::write_unmoved` meets its contract. The loop's invariant: there are zeros from m to i, and the other entries are as they
 -- stood. The measure is what is left of n. Assumes nothing.
-use Prim.Native.Nat.{◌-◌, ◌≤◌}
-use mathlib.Core.List.{◌++◌}
 use mathlib.Core.Path.{◌≡◌, ◌∙◌, refl, ap}
 use native.Mathlib.Omega.{arith}
-use borrow.Author.Rules.{rules}
-use lib.ListN.{length, take, drop, set, replicate, length-set}
+use lib.ListN.{set, length-set}
 use Rattle.wear.proofs.Stored.{unmoved_none, unmoved_stored}
 use Rattle.wear.proofs.writing.write_unmoved.Goals as goal
 
@@ -21,10 +18,6 @@ loop-i-preserved c =
       simp length-set at.invariant.2,
       ap (λ l. set l at.i 0) at.invariant.3 ∙ unmoved_stored c.args.m at.i c.args.out.now at.invariant.0 (omega arith),
     )
-
-pub UNMAPPED-same-length : goal.UNMAPPED-same-length
-UNMAPPED-same-length c =
-    c.loop-i.invariant.2
 
 pub returns : goal.returns
 returns c =

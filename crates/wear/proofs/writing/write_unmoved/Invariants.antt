@@ -2,11 +2,8 @@
 -- stood. The measure is what is left of n. Assumes nothing.
 use Prim.Native.Nat.{◌-◌, ◌≤◌}
 use mathlib.Core.List.{◌++◌}
-use mathlib.Core.Path.{◌≡◌, ◌∙◌, refl, ap}
-use native.Mathlib.Omega.{arith}
-use borrow.Author.Rules.{rules}
-use lib.ListN.{length, take, drop, set, replicate, length-set}
-use Rattle.wear.proofs.Stored.{unmoved_none, unmoved_stored}
+use mathlib.Core.Path.{◌≡◌}
+use lib.ListN.{length, take, drop, replicate}
 use Rattle.wear.proofs.writing.write_unmoved.Given as goal
 
 abbrev pub invariant-loop-i : goal.invariant-loop-i

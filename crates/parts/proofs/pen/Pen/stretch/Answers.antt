@@ -2,7 +2,6 @@
 -- Assumes nothing.
 use mathlib.Core.Path.{◌∙◌}
 use native.Mathlib.Omega.{arith}
-use borrow.Author.Rules.{rules}
 use Rattle.parts.proofs.Pens.{pen_passes, pen_keeps, pen_goes, pen_puts}
 use Rattle.parts.proofs.pen.Pen.stretch.Goals as goal
 
