@@ -8,5 +8,4 @@ pub mod Calls
 pub mod Sessions
 pub mod Demand3
 -- What the code's proofs cite.
-pub mod Records
 pub mod Replays
