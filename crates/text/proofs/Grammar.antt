@@ -18,9 +18,9 @@ unfolding is_digit
 digit_is d h = rw (lt-ltb 47 (digit d) (omega arith), lt-ltb (digit d) 58 (omega arith))
 
 -- A byte that passes the test for digits is the byte of a digit, so that what the reader takes is one.
-pub is_digit : (c : ℕ) → is_digit c ≡ true → (c ≡ digit (c - 48)) × (c - 48 < 10)
+pub passed_digit : (c : ℕ) → is_digit c ≡ true → (c ≡ digit (c - 48)) × (c - 48 < 10)
 unfolding is_digit
-is_digit c e =
+passed_digit c e =
     let both = (and-eq-true_iff (ltb 47 c) (ltb c 58)).0 e in
     omega (arith, ltb-true 47 c both.0, ltb-true c 58 both.1)
 
@@ -142,7 +142,7 @@ mutual
   digit_found [] h = absurd (false≢true h)
   digit_found (c ∷ b) h =
       let (e, k) = passed (is_digit c) CommaOrEnd b h in
-      let (same, small) = is_digit c e in
+      let (same, small) = passed_digit c e in
       let (p, r, ds, q) = further_found b k in
       ((c - 48) ∷ p, r, more small ds, ap₂ (λ x y. comma ∷ space ∷ x ∷ y) same q)
 
@@ -154,7 +154,7 @@ inside_found (c ∷ b) h =
     either (eqb c closing) Newline _ b h
     (λ e k. let (r, q) = end_found b k in ([], r, none, ap₂ (λ x y. opening ∷ x ∷ y) (eqb-true c closing e) q))
     (λ k. let (e, k') = passed (is_digit c) CommaOrEnd b k in
-    let (same, small) = is_digit c e in
+    let (same, small) = passed_digit c e in
     let (p, r, ds, q) = further_found b k' in
     ((c - 48) ∷ p, r, more small ds, ap₂ (λ x y. opening ∷ x ∷ y) same q))
 

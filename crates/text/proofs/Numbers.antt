@@ -54,7 +54,7 @@ numerals_more (more h x) l = more h (numerals_more x l)
 value_more : (v : ℕ) (t : List ℕ) (d : ℕ) → value_after v (t ++ (digit d ∷ [])) ≡ 10 * value_after v t + d
 unfolding value_after
 value_more v [] d = omega arith
-value_more v (c ∷ t) d = value_more _ t d
+value_more v (c ∷ t) d = value_more (10 * v + (c - 48)) t d
 
 -- A decimal of a number above 0 does not begin with the digit 0, which is why a digit may follow it.
 no_zero : {n : ℕ} {t : List ℕ} → Decimal n t → 0 < n → (r : List ℕ) → t ≢ digit 0 ∷ r

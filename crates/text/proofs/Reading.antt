@@ -1,15 +1,13 @@
 -- What the byte at i does to each reading of the bytes from i on: one step of each loop of the reader.
-use Prim.Native.Nat.{ℕ, suc, ◌-◌, ◌≤◌, ◌<◌}
-use mathlib.Core.Path.{◌≡◌, ◌∙◌, refl}
+use Prim.Native.Nat.{ℕ, suc, ◌+◌, ◌-◌, ◌≤◌, ◌<◌}
+use mathlib.Core.Path.{◌≡◌}
+use native.Mathlib.Numerals.{add-one}
 use mathlib.Core.Bool.{true, false}
 use mathlib.Core.List.{List, [], ◌∷◌}
 use mathlib.Core.Logic.{◌≢◌}
 use borrow.Author.Tests.{eq-eqb, ne_eqb}
 use lib.ListN.{length, get_or, drop, drop_of_length-le}
 use lib.Seq.{drop-cons}
-use Rattle.bytes.specs.Bytes.{index_of}
-use Rattle.board.specs.Move.{top}
-use Rattle.board.proofs.Top.{top_index}
 use Rattle.text.specs.Input.{newline}
 use Rattle.text.specs.Reading.{is_digit, follow, follow_all, lines, digits, line_end}
 use Rattle.text.specs.declared.read.Next.{Next}
@@ -57,11 +55,17 @@ pub digits_none : (b : List ℕ) (i : ℕ) → length b ≤ i → digits (drop i
 unfolding digits
 digits_none b i h = rw (drop_of_length-le b h)
 
--- The first line ends where byte 10 is first found.
-end_top : (b : List ℕ) → top b newline ≡ line_end b
-unfolding top line_end
-end_top [] = refl
-end_top (c ∷ b) = rw (end_top b)
+-- It ends the first line.
+pub end_here : (b : List ℕ) (i : ℕ) → i < length b → get_or b i 0 ≡ newline → line_end (drop i b) ≡ 0
+unfolding line_end
+end_here b i h e = rw (drop-cons b i 0 h, eq-eqb _ _ e)
 
-pub end_index : (b : List ℕ) → index_of newline b ≡ line_end b
-end_index b = top_index b newline ∙ end_top b
+-- It does not end it.
+pub end_past : (b : List ℕ) (i : ℕ) → i < length b → get_or b i 0 ≢ newline → line_end (drop i b) ≡ suc (line_end (drop (i + 1) b))
+unfolding line_end
+end_past b i h n = rw (add-one, drop-cons b i 0 h, ne_eqb _ _ n)
+
+-- No line ends in no bytes: where they end.
+pub end_none : (b : List ℕ) (i : ℕ) → length b ≤ i → line_end (drop i b) ≡ 0
+unfolding line_end
+end_none b i h = rw (drop_of_length-le b h)
