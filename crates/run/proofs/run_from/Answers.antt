@@ -25,9 +25,9 @@ write_moves-requires c =
     let known : let p = plan_of c.args.start.now c.args.goal.now in (c.args.route < routes p) × (c.args.first ≤ shortest p) =
     rw c.requires.p_value at c.requires.route_bound in
     let enough : c.lesser-count.result ≤ length (drop c.args.first (route_of c.args.start.now c.args.goal.now c.args.route)) =
-    rw (route_left _ _ c.requires.ends _ (known).0 c.args.first, ← c.requires.p_value) (omega (arith, counted)) in
+    rw (route_left _ _ c.requires.ends _ known.0 c.args.first, ← c.requires.p_value) (omega (arith, counted)) in
     let ends = c.requires.ends in
-    let size = (route_formed _ _ ends _ (known).0 _ (known).1).1 ∙ ends.same in record { count_in_bounds = omega (arith, counted); by_index = λ i h. ready_safe _ _ _ _ c.start_at-stepper.ensures size (omega arith) ends.goal_formed i (omega (arith, enough)) }
+    let size = (route_formed _ _ ends _ known.0 _ known.1).1 ∙ ends.same in record { count_in_bounds = omega (arith, counted); by_index = λ i h. ready_safe _ _ _ _ c.start_at-stepper.ensures size (omega arith) ends.goal_formed i (omega (arith, enough)) }
 
 -- The moves are written.
 pub returns-then-count-gt0 : goal.returns-then-count-gt0
@@ -37,11 +37,11 @@ returns-then-count-gt0 c =
     let known : let p = plan_of c.args.start.now c.args.goal.now in (c.args.route < routes p) × (c.args.first ≤ shortest p) =
     rw c.requires.p_value at c.requires.route_bound in
     let enough : c.lesser-count.result ≤ length (drop c.args.first (route_of c.args.start.now c.args.goal.now c.args.route)) =
-    rw (route_left _ _ c.requires.ends _ (known).0 c.args.first, ← c.requires.p_value) (omega (arith, counted)) in
+    rw (route_left _ _ c.requires.ends _ known.0 c.args.first, ← c.requires.p_value) (omega (arith, counted)) in
     record {
       value = counted;
       out_after = c.write_moves.ensures
-          ∙ ready_written _ _ _ _ _ _ (formed_pegs _ c.requires.ends.goal_formed) (λ some. c.start_at-stepper.ensures) (enough);
+          ∙ ready_written _ _ _ _ _ _ (formed_pegs _ c.requires.ends.goal_formed) (λ some. c.start_at-stepper.ensures) enough;
     }
 
 -- Nothing is written.

@@ -17,7 +17,7 @@ pub gather_turn-step-requires : goal.gather_turn-step-requires
 gather_turn-step-requires c =
     let current : Gatherer =
     gatherer c.loop-i.top c.loop-i.beneath c.loop-i.turn in
-    let safe : Gathers (current) =
+    let safe : Gathers current =
     rw c.loop-i.invariant.2 (c.requires.by_index _ c.loop-i-test.true) in
     let may = safe in
     record { left_nonzero = (may.some, may.small, may.to); carries = (may.carries, may.on_top) }
@@ -26,7 +26,7 @@ pub overflow_add-out : goal.overflow_add-out
 overflow_add-out c =
     let current : Gatherer =
     gatherer c.loop-i.top c.loop-i.beneath c.loop-i.turn in
-    let safe : Gathers (current) =
+    let safe : Gathers current =
     rw c.loop-i.invariant.2 (c.requires.by_index _ c.loop-i-test.true) in
     let pegs : (c.gather_turn-step.result.from < 3) × (c.gather_turn-step.result.to < 3) =
     let may = safe in
@@ -37,7 +37,7 @@ pub overflow_add-out-in-loop-i-2 : goal.overflow_add-out-in-loop-i-2
 overflow_add-out-in-loop-i-2 c =
     let current : Gatherer =
     gatherer c.loop-i.top c.loop-i.beneath c.loop-i.turn in
-    let safe : Gathers (current) =
+    let safe : Gathers current =
     rw c.loop-i.invariant.2 (c.requires.by_index _ c.loop-i-test.true) in
     let pegs : (c.gather_turn-step.result.from < 3) × (c.gather_turn-step.result.to < 3) =
     let may = safe in

@@ -24,15 +24,15 @@ pub next_leg-next-requires : goal.next_leg-next-requires
 next_leg-next-requires c =
     let current : Stepper =
     standing c.loop-i.top c.loop-i.beneath c.loop-i.turn c.loop-i.leg in
-    let safe : Safe (current) c.args.goal.now =
+    let safe : Safe current c.args.goal.now =
     rw c.loop-i.invariant.2 (c.requires.by_index _ c.loop-i-test.true) in
-    let leg = (safe_leg _ _ (safe) c.if-turn-eq0.true).0 in (leg.from, leg.to, leg.disc)
+    let leg = (safe_leg _ _ safe c.if-turn-eq0.true).0 in (leg.from, leg.to, leg.disc)
 
 pub leg_turn-step-requires : goal.leg_turn-step-requires
 leg_turn-step-requires c =
     let current : Stepper =
     standing c.loop-i.top c.loop-i.beneath c.loop-i.turn c.loop-i.leg in
-    let safe : Safe (current) c.args.goal.now =
+    let safe : Safe current c.args.goal.now =
     rw c.loop-i.invariant.2 (c.requires.by_index _ c.loop-i-test.true) in
     let within : LegWithin (length c.args.goal.now) c.next_leg-next.result =
     let may = safe in
@@ -47,10 +47,10 @@ unfolding leg_turn
 overflow_add-out c =
     let current : Stepper =
     standing c.loop-i.top c.loop-i.beneath c.loop-i.turn c.loop-i.leg in
-    let safe : Safe (current) c.args.goal.now =
+    let safe : Safe current c.args.goal.now =
     rw c.loop-i.invariant.2 (c.requires.by_index _ c.loop-i-test.true) in
     let pegs : (c.leg_turn-step.result.from < 3) × (c.leg_turn-step.result.to < 3) =
-    let now = (safe_leg _ _ (safe) c.if-turn-eq0.true).0 in
+    let now = (safe_leg _ _ safe c.if-turn-eq0.true).0 in
     rw c.leg_turn-step.ensures.value (now.from, now.to) in
     omega (arith, pegs)
 
@@ -71,10 +71,10 @@ unfolding leg_turn
 overflow_add-out-then-turn-eq0 c =
     let current : Stepper =
     standing c.loop-i.top c.loop-i.beneath c.loop-i.turn c.loop-i.leg in
-    let safe : Safe (current) c.args.goal.now =
+    let safe : Safe current c.args.goal.now =
     rw c.loop-i.invariant.2 (c.requires.by_index _ c.loop-i-test.true) in
     let pegs : (c.leg_turn-step.result.from < 3) × (c.leg_turn-step.result.to < 3) =
-    let now = (safe_leg _ _ (safe) c.if-turn-eq0.true).0 in
+    let now = (safe_leg _ _ safe c.if-turn-eq0.true).0 in
     rw c.leg_turn-step.ensures.value (now.from, now.to) in
     omega (arith, pegs)
 
@@ -110,7 +110,7 @@ loop-i-preserved-then-turn-eq0 c =
     standing c.loop-i.top c.loop-i.beneath c.loop-i.turn c.loop-i.leg in
     let inv = c.loop-i.invariant in
     let next =
-    rw inv.2 at (leg_made (current) _ _ c.leg_turn-step.ensures.beneath_after c.if-turn-eq0.true c.next_leg-next.ensures c.leg_turn-step.ensures.value) in (
+    rw inv.2 at (leg_made current _ _ c.leg_turn-step.ensures.beneath_after c.if-turn-eq0.true c.next_leg-next.ensures c.leg_turn-step.ensures.value) in (
       omega arith,
       simp length-set inv.1,
       rw add-one (ap (λ (t : Advance). t.stepper) next),

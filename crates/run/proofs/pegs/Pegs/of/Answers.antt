@@ -31,7 +31,7 @@ loop-d-preserved c =
     formed_pegs _ c.requires.1 _ in
     let at = c.loop-d in
     let next : at.d ≡ suc (at.d - 1) = omega arith in
-    (omega arith, rw add-one (holds_more (at.d - 1) (omega arith) (peg_small) (rw next at at.invariant.1)))
+    (omega arith, rw add-one (holds_more (at.d - 1) (omega arith) peg_small (rw next at at.invariant.1)))
 
 pub returns : goal.returns
 returns c =
