@@ -9,10 +9,10 @@ use Rattle.builds.proofs.same.gathered.Goals as goal
 
 pub slice_bounds-position-end : goal.slice_bounds-position-end
 slice_bounds-position-end c =
-    let sized : length c.args.b.position-1 ≡ limit =
+    let sized : length c.args.b.position ≡ limit =
     search rules in
     omega (arith, sized)
 
 pub slice_bounds-gather-end : goal.slice_bounds-gather-end
 slice_bounds-gather-end c =
-    sym (length-take-le _ _ (array-share-prefix-position c))
+    let sized : length c.args.b.position ≡ limit = search rules in sym (length-take-le _ _ (omega arith))

@@ -14,9 +14,9 @@ at_most_one true = omega arith
 at_most_one false = omega arith
 
 pub overflow_add-times : goal.overflow_add-times
-overflow_add-times c =
+overflow_add-times g c =
     omega (arith, at_most_one c.as_gather.result)
 
 pub loop-i-preserved : goal.loop-i-preserved
-loop-i-preserved c =
+loop-i-preserved g c =
     omega (arith, at_most_one c.as_gather.result)

@@ -9,7 +9,7 @@ use lib.ListN.{length}
 use Rattle.builds.proofs.sixty.changes.Given as goal
 
 abbrev pub invariant-loop-i : goal.invariant-loop-i
-invariant-loop-i l = (l.i ≤ length l.digits) × (l.times ≤ l.i)
+invariant-loop-i g l = (l.i ≤ length l.digits) × (l.times ≤ l.i)
 
 abbrev pub decreases-loop-i : goal.decreases-loop-i
-decreases-loop-i l = length l.digits - l.i
+decreases-loop-i g l = length l.digits - l.i
