@@ -19,7 +19,7 @@ pub record Compares (φ : ℕ → ℕ → ℕ) (κ : ℕ → ℕ) : Type 0 where
   pub turn : (n e : ℕ) (f g : List ℕ → List ℕ → ℕ) → both n f ≡ both n g + e
       → both n (λ s t. φ (f s t) (g s t)) ≡ κ e + both n (λ s t. φ (g s t) (f s t))
 
--- Disc n + 1 goes from a to b, and c is the third peg: the one_move plan compared with the two-move plan, a move less each.
+-- Disc n + 1 goes from a to b, and c is the third peg: the one-move plan compared with the two-move plan, a move less each.
 abbrev pub crossing : (ℕ → ℕ → ℕ) → ℕ → ℕ → ℕ → ℕ → ℕ
 crossing φ n a b c = both n (λ s t. φ (on c s + on c t) (on b s + on a t + 2 ^ n))
 

@@ -33,7 +33,7 @@ fewest_home {n} {i} {s} {t} hi hs ht =
     ∙ dist_append s t (i ∷ []) (i ∷ []) n (omega (arith, hs.size)) (omega (arith, ht.size))
     ∙ sym (fewest_at hs ht)
 
--- On two: the lesser of the one_move plan and the two-move plan.
+-- On two: the lesser of the one-move plan and the two-move plan.
 fewest_away : {n a b c : ℕ} {s t : List ℕ} → Three a b c → IsPosition n s → IsPosition n t
     → fewest (with_largest a s) (with_largest b t) ≡ min (on c s + 1 + on c t) (on b s + 2 ^ n + 1 + on a t)
 fewest_away {n} {a} {b} {c} {s} {t} h hs ht =
@@ -41,7 +41,7 @@ fewest_away {n} {a} {b} {c} {s} {t} h hs ht =
     ∙ dist_away (peg (with_largest a s)) (peg (with_largest b t)) n (get_or_at s a [] 0 n hs.size) (get_or_at t b [] 0 n ht.size) h
     ∙ rw (front_on a c hs, front_on b c ht, front_on a b hs, front_on b a ht)
 
--- Over all pairs with the largest discs so: the one_move plans, less what the two-move plans save.
+-- Over all pairs with the largest discs so: the one-move plans, less what the two-move plans save.
 away_sum : (n : ℕ) {a b c : ℕ} → Three a b c
     → both n (λ s t. fewest (with_largest a s) (with_largest b t)) + u n ≡ 2 * (3 ^ n * gather_sum n) + 9 ^ n
 away_sum n {a} {b} {c} h =
@@ -51,7 +51,7 @@ away_sum n {a} {b} {c} h =
     both_cong n _ _ (λ s t hs ht. omega (arith, fewest_away h hs ht)) in
     omega (arith, both_add n least saved, (margin_alike n).crossed h, both_on n c c 1 h.third h.third)
 
--- What all one_move plans of a disc more add up to (002, (8)).
+-- What all one-move plans of a disc more add up to (002, (8)).
 one_moves : (n : ℕ) → 6 * (2 * (3 ^ n * gather_sum n) + 9 ^ n) ≡ 2 * 9 ^ n * (2 ^ (n + 2) - 1)
 one_moves n =
     let gathers = ap (λ (m : ℕ). 3 ^ n * m) (gathers_total n) in
@@ -76,7 +76,7 @@ sum_next n =
     (λ a b c h. omega (arith, away_sum n h)) in
     omega (arith, away_sum n pegs, one_moves n)
 
--- The one_move plans are at least what is saved.
+-- The one-move plans are at least what is saved.
 pub saved_less : (n : ℕ) → 6 * u n ≤ 2 * 9 ^ n * (2 ^ (n + 2) - 1)
 saved_less n = omega (arith, away_sum n pegs, one_moves n)
 

@@ -1,4 +1,4 @@
--- Crossings and exchanges by Hinz's recurrences: by how much the one_move plan is longer is u, and how often the two are equal is x.
+-- Crossings and exchanges by Hinz's recurrences: by how much the one-move plan is longer is u, and how often the two are equal is x.
 use Prim.Native.Nat.{ℕ, zero, suc, ◌+◌, ◌-◌, ◌*◌, ◌/◌, ◌^◌}
 use mathlib.Core.Bool.{cond}
 use mathlib.Core.Path.{◌≡◌, ◌∙◌, sym}
@@ -74,7 +74,7 @@ v_next n =
       mul_left_comm (9 ^ n) 2 (2 ^ n),
     )
 
--- By how much the one_move plans are longer, added up, is u.
+-- By how much the one-move plans are longer, added up, is u.
 pub margin_alike : (n : ℕ) → Alike ◌-◌ n (u n) (exchanges n)
 unfolding u v
 margin_alike zero = alike_none margin

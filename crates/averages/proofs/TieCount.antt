@@ -88,7 +88,7 @@ tie_home {n} {i} {s} {t} hi hs ht =
     (tie_append s t (i ∷ []) (i ∷ []) n (omega (arith, hs.size)) (omega (arith, ht.size)))
     ∙ sym (tie_at t hs)
 
--- On two: the one_move plan and the two-move plan are equally long.
+-- On two: the one-move plan and the two-move plan are equally long.
 tie_away : {n a b c : ℕ} {s t : List ℕ} → Three a b c → IsPosition n s → IsPosition n t
     → tie_of (with_largest a s) (with_largest b t) ≡ equal (on c s + on c t) (on b s + on a t + 2 ^ n)
 unfolding tie direct detour

@@ -26,7 +26,7 @@ use Rattle.plan.proofs.Optimal.{fewest_shortest, shortest_bound}
 pub fewest_bound : (p q : List ℕ) → length p ≡ length q → WellFormed p → WellFormed q → fewest p q ≤ 2 ^ length p - 1
 fewest_bound p q same hp hq = omega (arith, fewest_shortest p q same hp hq, shortest_bound p q same hp hq)
 
--- The one_move plan of disc k + 1 takes fewer than 2 ^ (k + 1) moves.
+-- The one-move plan of disc k + 1 takes fewer than 2 ^ (k + 1) moves.
 pub direct_bound : (p q : ℕ → ℕ) → Pegs p → Pegs q → (k : ℕ) → direct p q k < 2 * 2 ^ k
 unfolding direct
 direct_bound p q hp hq k =

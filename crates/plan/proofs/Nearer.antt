@@ -24,7 +24,7 @@ nearer : {p t : ℕ → ℕ} {k : ℕ} (q : ℕ → ℕ) → Pegs t → Pegs q �
 nearer {p} {t} {k} q ht hq s l =
     record { next = q; pegs = hq; step = s; less = omega (arith, step_dist k q p t hq ht (step_back s)) }
 
--- The first move of the one_move plan, where that is the shorter or they tie.
+-- The first move of the one-move plan, where that is the shorter or they tie.
 nearer_direct : (p t : ℕ → ℕ) → Pegs p → Pegs t → (k z : ℕ) → Three (p k) (t k) z
     → gather p k z + 1 + gather t k z ≤ gather p k (t k) + 2 ^ k + 1 + gather t k (p k) → Nearer p t (suc k)
 nearer_direct p t hp ht k z h le =

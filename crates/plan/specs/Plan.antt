@@ -14,7 +14,7 @@ unfoldable pub largest : (ℕ → ℕ) → (ℕ → ℕ) → ℕ → ℕ
 largest p q zero = 0
 largest p q (suc k) = cond (eqb (p k) (q k)) (largest p q k) (suc k)
 
--- The one_move plan of disc k + 1: gather the smaller discs on the third peg, cross, and spread them.
+-- The one-move plan of disc k + 1: gather the smaller discs on the third peg, cross, and spread them.
 unfoldable pub direct : (ℕ → ℕ) → (ℕ → ℕ) → ℕ → ℕ
 direct p q k = gather p k (third (p k) (q k)) + 1 + gather q k (third (p k) (q k))
 
@@ -61,7 +61,7 @@ routes_way (Tie l) = 2
 abbrev pub routes : Plan → ℕ
 routes r = routes_way r.way
 
--- The one_move and the two-move plan tie when their lengths are equal; a still plan has none.
+-- The one-move and the two-move plan tie when their lengths are equal; a still plan has none.
 abbrev pub Tied : Way → Type 0
 Tied Still = ⊥
 Tied (Direct l) = l.direct ≡ l.detour

@@ -11,7 +11,7 @@ pub enum Gathered {
     Refused(Refusal),
 }
 
-// The lengths of the one_move and of the two-move plan.
+// The lengths of the one-move and of the two-move plan.
 #[derive(Clone, Copy)]
 pub struct Lengths {
     pub direct: u64,

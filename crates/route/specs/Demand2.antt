@@ -41,7 +41,7 @@ Numbered (Direct l) route direct detour = route 0 ≡ direct
 Numbered (Detour l) route direct detour = route 0 ≡ detour
 Numbered (Tie l) route direct detour = (route 0 ≡ direct) × (route 1 ≡ detour)
 
--- Move answers entry i of the route, with the disc that it moves: the smallest on its from_peg where the moves before it lead.
+-- Move answers entry i of the route, with the disc that it moves: the smallest on its from-peg where the moves before it lead.
 pub record Moves (t : List ℕ) (r i : ℕ) : Type 0 where
   pub move : DiscMove
   pub answered : move_answer t r i ≡ answer move

@@ -16,7 +16,7 @@ pub fn play(session: &mut Session, from: u8, to: u8) -> Played
     stepped.played
 }
 
-// Play itself, on a record by value: the way in which a program runs it with no walk by hand.
+// Play itself, on a record by value.
 pub fn play_on(session: Session, from: u8, to: u8) -> Stepped
     ensures { (play_reply result.played ≡ play_answer session (record { from = from; to = to }))
         × (result.session ≡ play_leaves session (record { from = from; to = to })) }

@@ -102,7 +102,7 @@ routes_count p q =
       ]
     ]
 
--- Two exactly where the one_move and the two-move plan tie.
+-- Two exactly where the one-move and the two-move plan tie.
 pub routes_two : (p q : List ℕ) → (routes (plan_of p q) ≡ 2) ↔ Tied (plan_of p q).way
 routes_two p q =
     elim (largest_view (peg p) (peg q) (length p)) [

@@ -62,7 +62,7 @@ walk_leads (go {m = m} s e w) p en eu =
     let l = walk_leads w (moved p (plain m)) (length_moved p (plain m) ∙ en) f.pegs in
     record { leads = next f.legal l.leads; pegs = l.pegs; size = l.size ∙ length_moved p (plain m) }
 
--- Each move of it names the disc that it moves: the smallest on its from_peg where the moves before it lead.
+-- Each move of it names the disc that it moves: the smallest on its from-peg where the moves before it lead.
 pub walk_disc : {n : ℕ} {u v : ℕ → ℕ} {ms : List DiscMove}
     → Walk n u ms v → (p : List ℕ) → length p ≡ n → ((d : ℕ) → peg p d ≡ u d) → (i : ℕ) → i < length ms
     → (move_at ms i).disc ≡ suc (top (after p (take i ms)) (move_at ms i).from)

@@ -3,7 +3,7 @@ use borrow.Author.Tests.{lt-ltb, le-ltb}
 use Rattle.plan.specs.Plan.{way_of}
 use Rattle.plan.proofs.answer.Way.of.Goals as goal
 
--- The one_move plan is the shorter.
+-- The one-move plan is the shorter.
 pub returns-then-lengths : goal.returns-then-lengths
 unfolding way_of
 returns-then-lengths c =
