@@ -1,7 +1,7 @@
 /* towers.h: three-peg tower boards (Tower of Hanoi) of 0 to 60 discs.
  *
- * Link with libtowers.a. Its target is x86-64 with the System V calling convention (Linux, ELF), and no other. Each function is proved to
- * answer exactly what is said here, on every input.
+ * Link with libtowers.a. Its target is x86-64-v2 with the System V calling convention (Linux, ELF), and no other. Each function is proved
+ * to answer exactly what is said here, on every input.
  *
  * Discs are numbered 1 to n, disc 1 the smallest. Pegs are 0, 1 and 2, as letters 'A', 'B' and 'C'. A position is n bytes: byte
  * d - 1 holds the peg of disc d. A task is 2n bytes: the start's n bytes, then the goal's n bytes. It is one buffer, and what is looked at
