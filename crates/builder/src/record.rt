@@ -1,6 +1,6 @@
 // The builder.
 ghost use Rattle.std.specs.Prelude.{◌≡◌};
-ghost use Rattle.builder.specs.Builder.{empty as emptyBuilder};
+ghost use Rattle.builder.specs.Builder.{empty as empty_builder};
 
 use board::LIMIT;
 
@@ -14,7 +14,7 @@ pub struct Builder {
 
 // A builder of no discs.
 pub fn empty() -> Builder
-    ensures { result ≡ emptyBuilder }
+    ensures { result ≡ empty_builder }
 {
     Builder {
         n: 0,

@@ -2,7 +2,7 @@
 ghost use Rattle.std.specs.Prelude.{◌≡◌};
 ghost use Rattle.board.specs.Fewest.{same};
 ghost use Rattle.checker.specs.Inner.Ours.{OneOfOurs};
-ghost use Rattle.route.specs.Answer.{count_of, task_route, letters as lettersOf};
+ghost use Rattle.route.specs.Answer.{count_of, task_route, letters as letters_of};
 
 use route::Moving;
 
@@ -10,7 +10,7 @@ use route::Moving;
 pub fn is_first(task: &[u8], routes: u64, letters: &[u8]) -> bool
     requires routes_value { routes ≡ count_of task.now }
     requires one_of_ours { OneOfOurs task.now letters.now }
-    ensures { result ≡ same letters.now (lettersOf (task_route task.now 0)) }
+    ensures { result ≡ same letters.now (letters_of (task_route task.now 0)) }
 {
     if routes == 1 {
         return true;

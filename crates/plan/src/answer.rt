@@ -1,6 +1,6 @@
 // What Gather and Plan answer.
 ghost use Rattle.std.specs.Prelude.{◌≡◌};
-ghost use Rattle.plan.specs.Plan.{way_of, shortest as shortestOf, routes as routesOf};
+ghost use Rattle.plan.specs.Plan.{way_of, shortest as shortest_of, routes as routes_of};
 
 use board::Refusal;
 
@@ -63,7 +63,7 @@ impl Way {
 impl Plan {
     // The fewest moves.
     pub fn shortest(self) -> u64
-        ensures { result ≡ shortestOf self }
+        ensures { result ≡ shortest_of self }
     {
         let way = self.way;
         match way {
@@ -76,7 +76,7 @@ impl Plan {
 
     // How many shortest routes there are.
     pub fn routes(self) -> u64
-        ensures { result ≡ routesOf self }
+        ensures { result ≡ routes_of self }
     {
         let way = self.way;
         match way {

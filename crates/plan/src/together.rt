@@ -1,7 +1,7 @@
 // The gathers of both plans together, in one pass over both positions. Positions are arrays here, and targets single numbers: so the
 // compiler makes one loop of the recursion, with all that it follows in registers, and no branch on a peg.
 ghost use Rattle.std.specs.Prelude.{◌≡◌, ◌<◌};
-ghost use Rattle.board.specs.Peg.{third as thirdOf};
+ghost use Rattle.board.specs.Peg.{third as third_of};
 ghost use Rattle.plan.specs.Inner.Sound.{Together};
 ghost use Rattle.plan.specs.Inner.Together.{together};
 
@@ -10,7 +10,7 @@ use board::LIMIT;
 // The third peg of i and j, as `board::third`, on wide numbers.
 fn third(i: u64, j: u64) -> u64
     requires { (i < 3) × (j < 3) }
-    ensures { result ≡ thirdOf i j }
+    ensures { result ≡ third_of i j }
 {
     if i == j { i } else { 3 - (i + j) }
 }

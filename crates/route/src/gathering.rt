@@ -1,9 +1,9 @@
 // A gathering met in the middle: where its discs are when some of its moves are left, and its first move.
 ghost use Rattle.std.specs.Prelude.{◌≡◌, ◌+◌, ◌<◌, length};
-ghost use Rattle.board.specs.Position.{peg as pegOf};
+ghost use Rattle.board.specs.Position.{peg as disc_peg};
 ghost use Rattle.plan.specs.Inner.Sound.{Gatherable};
 ghost use Rattle.route.specs.Inner.Along.{stacked, Along, Passes};
-ghost use Rattle.route.specs.Route.{gathering as gatheringOf, move_at};
+ghost use Rattle.route.specs.Route.{gathering as gathering_of, move_at};
 
 use crate::answer::DiscMove;
 use board::LIMIT;
@@ -84,7 +84,7 @@ pub fn pegs_along(position: &[u8], k: usize, target: u8, left: u64) -> [u8; LIMI
 // where each is on its target.
 pub fn first_move(position: &[u8], k: usize, target: u8) -> DiscMove
     requires { Gatherable position.now k target }
-    ensures { result ≡ move_at (gatheringOf (pegOf position.now) k target) 0 }
+    ensures { result ≡ move_at (gathering_of (disc_peg position.now) k target) 0 }
 {
     let mut first = DiscMove {
         disc: 0,

@@ -20,7 +20,7 @@ fn route_move(start: &[u8], goal: &[u8], p: Plan, route: u64, index: u64) -> Mov
     requires p_value { p ≡ plan_of start.now goal.now }
     requires route_bound { (route < routes p) × (index < shortest p) }
     ensures result_value { move_reply result ≡ answer (move_at (route_of start.now goal.now route) index) }
-    ensures result_value_2 { part_reply result ≡ answer (part_letter (part_at (parts_of start.now goal.now route) index)) }
+    ensures part_value { part_reply result ≡ answer (part_letter (part_at (parts_of start.now goal.now route) index)) }
 {
     let c = Course::of(start, goal, p, route);
     let at = c.stage(index);
@@ -30,7 +30,7 @@ fn route_move(start: &[u8], goal: &[u8], p: Plan, route: u64, index: u64) -> Mov
 // Move: the move of a shortest route at an index, and its part. Refuses with the task faults, 4 and 5.
 pub fn move_at(task: &[u8], route: u64, index: u64) -> Moving
     ensures result_value { move_reply result ≡ move_answer task.now route index }
-    ensures result_value_2 { part_reply result ≡ part_answer task.now route index }
+    ensures part_value { part_reply result ≡ part_answer task.now route index }
 {
     match open_route(task, route) {
         Planned::Refused(why) => Moving::Refused(why),

@@ -1,7 +1,7 @@
 // The counts of a session, and what a play and a report make of them.
 ghost use Rattle.std.specs.Prelude.{true, ◌≡◌, ◌+◌, ◌≤◌, ◌<◌, ◌^◌};
 ghost use Rattle.board.specs.Refusal.{number};
-ghost use Rattle.session.specs.Counts.{no_plays, mark_of, counted, fumble as fumbleOf, full, counts_agree, excess_of};
+ghost use Rattle.session.specs.Counts.{no_plays, mark_of, counted, fumble as fumble_of, full, counts_agree, excess_of};
 
 use board::Refusal;
 
@@ -50,7 +50,7 @@ impl Mark {
 
 // What a refused play adds to the fumbles: 1 if it was refused with 8 or 9, 0 with any other number.
 pub fn fumble(why: Refusal) -> u64
-    ensures { result ≡ fumbleOf (number why) }
+    ensures { result ≡ fumble_of (number why) }
 {
     let refusal = why.number();
     if refusal == 8 {

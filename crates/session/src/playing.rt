@@ -3,7 +3,7 @@ ghost use Rattle.std.specs.Prelude.{◌≡◌, ◌+◌, ◌<◌, ◌^◌};
 ghost use Rattle.board.specs.Refusal.{number, verdict_reply};
 ghost use Rattle.board.specs.Reply.{pass};
 ghost use Rattle.session.specs.Answer.{play_check, play_reply, play_answer, play_leaves, refused_record};
-ghost use Rattle.session.specs.Counts.{fumble as fumbleOf};
+ghost use Rattle.session.specs.Counts.{fumble as fumble_of};
 
 use crate::counting::{Mark, fumble};
 use crate::record::Session;
@@ -42,7 +42,7 @@ fn play_verdict(s: Session, from: u8, to: u8) -> Verdict
 
 // The record after a refused play: one fumble more where it was refused with 8 or 9.
 fn refused(s: Session, why: Refusal) -> Session
-    requires { s.fumbles + fumbleOf (number why) < 2 ^ 64 }
+    requires { s.fumbles + fumble_of (number why) < 2 ^ 64 }
     ensures { result ≡ refused_record s (number why) }
 {
     let mut session = s;

@@ -1,7 +1,7 @@
 // The reader: two lines, each a position in single digits.
 ghost use Rattle.std.specs.Prelude.{cond, ◌++◌, ◌≡◌, ◌+◌, ◌≤◌, length};
 ghost use Rattle.text.specs.Input.{most};
-ghost use Rattle.text.specs.Reading.{is_digit, follow, is_bracket, is_text, digits as digitsOf, line_end, start_in, goal_in};
+ghost use Rattle.text.specs.Reading.{is_digit, follow, is_bracket, is_text, digits as digits_of, line_end, start_in, goal_in};
 ghost use Rattle.text.specs.Inner.Page.{Puts};
 ghost use Rattle.text.specs.declared.read.Next.TheVariants.{Nothing};
 
@@ -115,7 +115,7 @@ fn line_end(input: &[u8]) -> usize
 // Puts the digits among some bytes into a task from a place on, and answers the place after them.
 fn put_digits(bytes: &[u8], task: &mut [u8; 512], at: usize) -> usize
     requires { at + length bytes.now ≤ 512 }
-    ensures { Puts task.old at (digitsOf bytes.now) task.new result }
+    ensures { Puts task.old at (digits_of bytes.now) task.new result }
 {
     let mut used = at;
     let mut i = 0;

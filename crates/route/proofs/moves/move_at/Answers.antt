@@ -17,7 +17,7 @@ returns-then-shortest-index c =
     let opened : OpenedRoute c.args.task.now c.args.route c.in-Plan.p =
     open_answered _ _ (sym c.open_route.ensures ∙ ap plan_reply c.in-Plan.is) in
     let o = opened in
-    rw (o.passed, o.plan, ← c.shortest.ensures, le-ltb _ _ c.if-shortest-index.true) (record { result_value = refl; result_value_2 = refl })
+    rw (o.passed, o.plan, ← c.shortest.ensures, le-ltb _ _ c.if-shortest-index.true) (record { result_value = refl; part_value = refl })
 
 pub slice_bounds-route_move-end : goal.slice_bounds-route_move-end
 slice_bounds-route_move-end c =
@@ -34,7 +34,7 @@ route_move-requires c =
 pub returns-in-Refused : goal.returns-in-Refused
 unfolding move_answer part_answer
 returns-in-Refused c =
-    rw (open_refused _ _ (sym c.open_route.ensures ∙ ap plan_reply c.in-Refused.is)) (record { result_value = refl; result_value_2 = refl })
+    rw (open_refused _ _ (sym c.open_route.ensures ∙ ap plan_reply c.in-Refused.is)) (record { result_value = refl; part_value = refl })
 
 -- The move and its part are answered.
 pub returns-else-shortest-index : goal.returns-else-shortest-index

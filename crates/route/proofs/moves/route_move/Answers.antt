@@ -45,5 +45,5 @@ returns c =
     ∙ rw (c.stage-at.ensures, c.of-c.ensures) (sym (route_part _ _ c.requires.ends _ _ known (below))) in record {
       result_value = ap answer (c.stage_move.ensures
           ∙ rw (c.stage-at.ensures, c.of-c.ensures) (sym (route_entry _ _ c.requires.ends _ _ (below))));
-      result_value_2 = rw part;
+      part_value = rw part;
     }
