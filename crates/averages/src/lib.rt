@@ -15,6 +15,7 @@ use terms::Terms;
 pub const TOTALS_LIMIT: u64 = 15;
 
 // Totals: over all ordered pairs of positions of n discs, the sum of the fewest moves and the number of ties. Refuses with 20.
+#[tactic(auto, using(std::proofs::lemmas::Bool::Decides::nat_tests), unfolding(crate::specs::Answer::totals_answer))]
 pub fn totals(n: u64) -> Totalled
     ensures { totalled_reply result ≡ totals_answer n }
 {

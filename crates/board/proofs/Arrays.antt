@@ -5,6 +5,7 @@ use mathlib.Core.List.{List, [], ◌∷◌, ◌++◌}
 use mathlib.Core.Logic.{◌≢◌, ◌↔◌}
 use mathlib.Core.Path.{◌≡◌, ◌∙◌, refl, sym, ap}
 use native.Mathlib.Omega.{arith}
+use native.Mathlib.Numerals.{add-one}
 use borrow.Author.Tests.{eq-eqb, ne_eqb, eqb-true}
 use lib.Dec.{eqb}
 use lib.ListN.{length, get_or, take, drop, replicate, set, length-set, length-drop, length-take, drop_of_length-le, take-append-drop}
@@ -114,6 +115,10 @@ zero_from p i h = ap all_zero (drop-cons p i 0 h)
 -- A 0 at i leaves the test to the bytes after it.
 pub zero_past : (p : List ℕ) (i : ℕ) → i < length p → get_or p i 0 ≡ 0 → all_zero (drop (suc i) p) ≡ all_zero (drop i p)
 zero_past p i h z = rw (zero_from p i h, eq-eqb (get_or p i 0) 0 z)
+
+-- The same, with the next index as the code says it.
+pub zero_here : (p : List ℕ) (i : ℕ) → i < length p → get_or p i 0 ≡ 0 → all_zero (drop (i + 1) p) ≡ all_zero (drop i p)
+zero_here p i h z = rw add-one (zero_past p i h z)
 
 -- Another byte at i fails the test.
 pub zero_fails : (p : List ℕ) (i : ℕ) → i < length p → get_or p i 0 ≢ 0 → all_zero (drop i p) ≡ false

@@ -16,6 +16,7 @@ pub fn padded_array(position: &[u8]) -> [u8; LIMIT]
 }
 
 // Whether all bytes are 0.
+#[tactic(auto, using(crate::proofs::Arrays::zero_here, crate::proofs::Arrays::zero_fails, crate::proofs::Arrays::zero_end))]
 fn all_zero(bytes: &[u8]) -> bool
     ensures { result ≡ all_zero bytes.now }
 {

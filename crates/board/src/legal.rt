@@ -19,6 +19,7 @@ pub fn top_of(position: &[u8], peg: u8) -> usize
 }
 
 // The first fault of a move on a position.
+#[tactic(auto, using(std::proofs::lemmas::Bool::Decides::nat_tests), unfolding(crate::specs::Legal::legal_check))]
 pub fn legal_verdict(position: &[u8], from: u8, to: u8) -> Verdict
     ensures { verdict_reply result ≡ legal_check position.now (record { from = from; to = to }) }
 {

@@ -41,6 +41,7 @@ pub fn same_position(a: &[u8], b: &[u8]) -> bool
 }
 
 // The first fault of a position.
+#[tactic(auto, using(std::proofs::lemmas::Bool::Decides::nat_tests), unfolding(crate::specs::Task::position_check))]
 pub fn position_verdict(position: &[u8]) -> Verdict
     ensures { verdict_reply result ≡ position_check position.now }
 {

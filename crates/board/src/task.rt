@@ -7,6 +7,7 @@ use crate::position::{LIMIT, only_pegs};
 use crate::refusal::{Refusal, Verdict};
 
 // The first fault of a task.
+#[tactic(auto, using(std::proofs::lemmas::Bool::Decides::nat_tests), unfolding(crate::specs::Task::task_check))]
 pub fn task_verdict(task: &[u8]) -> Verdict
     ensures { verdict_reply result ≡ task_check task.now }
 {

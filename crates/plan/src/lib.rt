@@ -14,6 +14,7 @@ pub use answer::{Gathered, Lengths, Plan, Planned, Way};
 use board::{Refusal, Verdict};
 
 // Gather: the fewest moves that stack a position on a peg. Refuses with 2, and with 3 for a byte or the peg.
+#[tactic(auto, using(std::proofs::lemmas::Bool::Decides::nat_tests), unfolding(crate::specs::Answer::gather_answer))]
 pub fn gather(position: &[u8], peg: u8) -> Gathered
     ensures { gather_reply result ≡ gather_answer position.now peg }
 {

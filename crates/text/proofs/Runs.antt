@@ -15,7 +15,8 @@ use Rattle.route.proofs.Calls.Answers.{route_length, run_accepts, run_answered}
 use Rattle.route.proofs.Calls.Letters.{letters_length}
 use Rattle.route.proofs.Calls.Opened.{Routed}
 use Rattle.text.specs.Inner.Page.{spaced}
-use Rattle.text.specs.Report.{moves_text, most_moves, route_line, route_lines}
+use borrow.Author.Tests.{lt-ltb}
+use Rattle.text.specs.Report.{moves_text, most_moves, long_word, route_text, route_line, route_lines}
 
 -- The letters of moves, with a space before each two, are their text.
 pub spaced_letters : (ms : List DiscMove) → spaced (letters ms) ≡ moves_text ms
@@ -43,6 +44,12 @@ module _ (t : List ℕ) (accepted : task_check t ≡ pass) (r : ℕ) (known : r 
         let all : take (length_of t) (task_route t r) ≡ task_route t r = take_all (length_of t) (task_route t r) (omega (arith, long)) in
         rw ((run_answered t r 0 out run_whole).wrote, all)
         (take_at (letters (task_route t r)) _ (2 * length_of t) (omega (arith, letters_length (task_route t r), long)))
+
+-- The text of a route of more than 1,000 moves is the word long.
+pub long_route : (t : List ℕ) (r : ℕ) → task_check t ≡ pass → r < count_of t → most_moves < length_of t → route_text (task_route t r) ≡ long_word
+unfolding route_text
+long_route t r accepted known above =
+    rw (lt-ltb most_moves (length (task_route t r)) (omega (arith, long t accepted r known)))
 
 -- The line of one route.
 pub one_line : (s t : List ℕ) → route_lines s t 1 ≡ route_line 0 (route_of s t 0)

@@ -70,6 +70,7 @@ fn put_moves(page: &mut Page, at: usize, letters: &[u8], count: usize) -> usize
 }
 
 // Puts the moves of a route, or the word long.
+#[tactic(auto, using(crate::proofs::Runs::long_route))]
 fn put_route(page: &mut Page, at: usize, task: &[u8], route: u64, moves: u64) -> usize
     requires at_bound { at + 3000 ≤ 8192 }
     requires task_value { (task_check task.now ≡ pass) × (route < count_of task.now) × (moves ≡ length_of task.now) }

@@ -31,7 +31,8 @@ returns-then-out-n c =
     let opened : PlanAnswered c.args.task.now c.in-Plan.p =
     plan_answered _ (sym c.plan.ensures ∙ ap plan_reply c.in-Plan.is) in
     let o = opened in
-    rw (o.accepted, o.plan, ← c.routes-routes.ensures, lt-ltb _ _ c.if-routes-route.false, lt-ltb _ _ c.if-out-n.true) (record { result_value = refl; out_after = refl })
+    let known : c.args.route < c.routes-routes.result = omega arith in
+    rw (o.accepted, o.plan, ← c.routes-routes.ensures, lt-ltb _ _ known, lt-ltb _ _ c.if-out-n.true) (record { result_value = refl; out_after = refl })
 
 pub slice_bounds-write_wears-end : goal.slice_bounds-write_wears-end
 slice_bounds-write_wears-end c =

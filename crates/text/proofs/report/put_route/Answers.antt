@@ -3,7 +3,7 @@ use Prim.Native.Nat.{ℕ, ◌*◌, ◌≤◌, ◌<◌}
 use mathlib.Core.List.{List}
 use mathlib.Core.Path.{◌≡◌, ◌∙◌, sym, ap, refl}
 use native.Mathlib.Omega.{arith}
-use borrow.Author.Tests.{lt-ltb, le-ltb}
+use borrow.Author.Tests.{le-ltb}
 use lib.ListN.{length, take, replicate}
 use Rattle.board.specs.Reply.{Reply, answer, pass}
 use Rattle.board.specs.Task.{task_check}
@@ -35,25 +35,15 @@ count : {t out : List ℕ} {r moves : ℕ} {ran : Ran} → ran ≡ Moves moves �
 count {t = t} {moves = moves} is w =
     let same : answer moves ≡ answer (length_of t) = sym (ap run_reply is) ∙ w.counted in cc
 
--- A route above 1,000 moves.
-pub returns-then-moves-gt-MOST_MOVES : goal.returns-then-moves-gt-MOST_MOVES
-unfolding route_text
-returns-then-moves-gt-MOST_MOVES c =
-    let t = c.args.task.now in
-    let r = c.args.route in
-    let pre = c.requires.task_value in
-    let above = lt-ltb most_moves (length (task_route t r)) (omega (arith, pre.2, c.if-moves-gt-MOST_MOVES.true, long t pre.0 r pre.1)) in
-    rw above (record { puts = c.put.ensures; upper_bound = omega (arith, c.put.ensures.place) })
-
 pub put_moves-requires : goal.put_moves-requires
 put_moves-requires c =
-    let its = whole c.requires.task_value c.if-moves-gt-MOST_MOVES.false c.run.ensures.result_value c.run.ensures.out_after in
+    let its = whole c.requires.task_value (omega arith) c.run.ensures.result_value c.run.ensures.out_after in
     omega (arith, count c.in-Moves.is its)
 
 -- Run refuses no route of a task.
 pub returns-in-Refused : goal.returns-in-Refused
 returns-in-Refused c =
-    let its = whole c.requires.task_value c.if-moves-gt-MOST_MOVES.false c.run.ensures.result_value c.run.ensures.out_after in
+    let its = whole c.requires.task_value (omega arith) c.run.ensures.result_value c.run.ensures.out_after in
     absurd (refused_answer (sym (ap run_reply c.in-Refused.is) ∙ its.counted))
 
 -- The whole route is put.
@@ -63,11 +53,11 @@ returns-in-Moves c =
     let t = c.args.task.now in
     let r = c.args.route in
     let pre = c.requires.task_value in
-    let its = whole pre c.if-moves-gt-MOST_MOVES.false c.run.ensures.result_value c.run.ensures.out_after in
+    let its = whole pre (omega arith) c.run.ensures.result_value c.run.ensures.out_after in
     let counted = count c.in-Moves.is its in
-    let short = le-ltb most_moves (length (task_route t r)) (omega (arith, pre.2, c.if-moves-gt-MOST_MOVES.false, long t pre.0 r pre.1)) in
+    let short = le-ltb most_moves (length (task_route t r)) (omega (arith, pre.2, long t pre.0 r pre.1)) in
     let puts = rw (counted, its.written, spaced_letters) at c.put_moves.ensures.puts in
     record {
       puts = rw short puts;
-      upper_bound = omega (arith, c.put_moves.ensures.value, counted, pre.2, c.if-moves-gt-MOST_MOVES.false);
+      upper_bound = omega (arith, c.put_moves.ensures.value, counted, pre.2);
     }
