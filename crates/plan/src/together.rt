@@ -1,5 +1,5 @@
 // The gathers of both plans together, in one pass over both positions. Positions are arrays here, and targets single numbers: so the
-// compiler makes one loop of the recursion, with all that it follows in registers, and no branch on a peg.
+// compiler keeps all that the loop follows in registers, with no branch on a peg.
 ghost use Rattle.std.specs.Prelude.{◌≡◌, ◌<◌};
 ghost use Rattle.board.specs.Peg.{third as third_of};
 ghost use Rattle.plan.specs.Inner.Sound.{Together};
@@ -20,32 +20,26 @@ fn third(i: u64, j: u64) -> u64
 pub fn gather_together(
     start: &[u8; LIMIT],
     goal: &[u8; LIMIT],
-    k: usize,
-    start_direct: u64,
-    goal_direct: u64,
-    start_detour: u64,
-    goal_detour: u64,
+    mut k: usize,
+    mut start_direct: u64,
+    mut goal_direct: u64,
+    mut start_detour: u64,
+    mut goal_detour: u64,
     sums: &mut [u64; 2],
 )
     requires { Together start.now goal.now k start_direct goal_direct start_detour goal_detour sums.old }
     ensures { sums.new ≡ together start.now goal.now k start_direct goal_direct start_detour goal_detour sums.old }
 {
-    if k == 0 {
-        return;
+    while 0 < k {
+        let below = k - 1;
+        let x = start[below] as u64;
+        let y = goal[below] as u64;
+        sums[0] = 2 * sums[0] + (x != start_direct) as u64 + (y != goal_direct) as u64;
+        sums[1] = 2 * sums[1] + (x != start_detour) as u64 + (y != goal_detour) as u64;
+        start_direct = third(start_direct, x);
+        goal_direct = third(goal_direct, y);
+        start_detour = third(start_detour, x);
+        goal_detour = third(goal_detour, y);
+        k = below;
     }
-    let below = k - 1;
-    let x = start[below] as u64;
-    let y = goal[below] as u64;
-    sums[0] = 2 * sums[0] + (x != start_direct) as u64 + (y != goal_direct) as u64;
-    sums[1] = 2 * sums[1] + (x != start_detour) as u64 + (y != goal_detour) as u64;
-    gather_together(
-        start,
-        goal,
-        below,
-        third(start_direct, x),
-        third(goal_direct, y),
-        third(start_detour, x),
-        third(goal_detour, y),
-        sums,
-    )
 }
