@@ -1,7 +1,6 @@
 // Locate compared with the distances.
 ghost use Rattle.std.specs.Prelude.{◌≤◌};
 
-use crate::position::write_pegs;
 use crate::spread::spread;
 use crate::tally::plus;
 use crate::walking::is_placed;
@@ -18,22 +17,33 @@ fn is_lowest(task: &[u8], route: u64, index: u64, n: usize, position: usize) -> 
     !is_placed(task, 0, index, n, position)
 }
 
-// Whether Locate answers as the distances say: to the position, from it to the goal, and from the start to the goal.
+// The pegs of the next position: a number in base 3, digit d the peg of disc d + 1, and one more.
+fn counted_on(pegs: [u8; 6]) -> [u8; 6] {
+    let mut next = pegs;
+    let mut d = 0;
+    while d < 6 {
+        if next[d] < 2 {
+            next[d] += 1;
+            return next;
+        }
+        next[d] = 0;
+        d += 1;
+    }
+    next
+}
+
+// Whether Locate answers as the distances say: to the position with these pegs, from it to the goal, and from the start to the goal.
 fn is_located(
     task: &[u8],
     n: usize,
     position: usize,
+    pegs: &[u8],
     there: u64,
     back: u64,
     distance: u64,
 ) -> bool {
-    if 6 < n {
-        return false;
-    }
-    let mut bytes = [0u8; 12];
-    write_pegs(position, n, 0, &mut bytes);
     let on = plus(there, back) == distance;
-    match route::locate(task, &bytes[..n]) {
+    match route::locate(task, pegs) {
         Located::Refused(_) => false,
         Located::Off => !on,
         Located::On { index, route } => {
@@ -59,12 +69,17 @@ fn count_located(
 ) -> u64
     requires { size ≤ 729 }
 {
+    if 6 < n {
+        return 0;
+    }
     let mut right = 0;
+    let mut pegs = [0u8; 6];
     let mut q = 0;
     while q < size {
-        if is_located(task, n, q, near[q], back[q], distance) {
+        if is_located(task, n, q, &pegs[..n], near[q], back[q], distance) {
             right = plus(right, 1);
         }
+        pegs = counted_on(pegs);
         q += 1;
     }
     right
