@@ -1,20 +1,12 @@
 -- What Totals answers (02, CR 10).
 use Rattle.std.specs.Prelude.{ℕ, ltb}
-use Rattle.board.specs.Refusal.{number}
-use Rattle.board.specs.Reply.{Reply, refused, answer, ◌>>◌, check}
+use Rattle.board.specs.Reply.{Reply, answer, ◌>>◌, check}
 use Rattle.averages.specs.Totals.{fewest_sum, tie_count}
 use Rattle.averages.specs.declared.answer.Totals.{Totals}
-use Rattle.averages.specs.declared.answer.Totalled.{Totalled}
-use Rattle.averages.specs.declared.answer.Totalled.TheVariants as totalled
 
 -- The most discs of a board that is totalled.
 abbrev pub totals_limit : ℕ
 totals_limit = 15
-
--- What an answer of Totals says: the sum and the ties.
-abbrev pub totalled_reply : Totalled → Reply Totals
-totalled_reply (totalled.Totals t) = answer t
-totalled_reply (totalled.Refused r) = refused (number r)
 
 -- The totals of n discs.
 abbrev pub totals_of : ℕ → Totals

@@ -1,13 +1,14 @@
-// Whole-board averages (document 02, CR 10): the fewest moves between all ordered pairs of positions, added up, and how many of them tie.
+// Whole-board averages: the fewest moves between all ordered pairs of positions, added up, and how many of them tie.
 #![tactic(auto)]
 
 mod answer;
 mod terms;
 
 ghost use Rattle.std.specs.Prelude.{◌≡◌};
-ghost use Rattle.averages.specs.Answer.{totalled_reply, totals_answer};
+ghost use Rattle.board.specs.Refusal.{reply_of};
+ghost use Rattle.averages.specs.Answer.{totals_answer};
 
-pub use answer::{Totalled, Totals};
+pub use answer::Totals;
 use board::Refusal;
 use terms::Terms;
 
@@ -16,11 +17,11 @@ pub const TOTALS_LIMIT: u64 = 15;
 
 // Totals: over all ordered pairs of positions of n discs, the sum of the fewest moves and the number of ties. Refuses with 20.
 #[tactic(auto, using(std::proofs::lemmas::Bool::Decides::nat_tests), unfolding(crate::specs::Answer::totals_answer))]
-pub fn totals(n: u64) -> Totalled
-    ensures { totalled_reply result ≡ totals_answer n }
+pub fn totals(n: u64) -> Result<Totals, Refusal>
+    ensures { reply_of result ≡ totals_answer n }
 {
     if TOTALS_LIMIT < n {
-        return Totalled::Refused(Refusal::TooLargeToTotal);
+        return Err(Refusal::TooLargeToTotal);
     }
-    Totalled::Totals(Terms::of(n).answered())
+    Ok(Terms::of(n).answered())
 }

@@ -1,16 +1,8 @@
 -- What Batch answers, and what it leaves of a lent buffer (02, CR 5).
 use Rattle.std.specs.Prelude.{ℕ, ◌*◌, not, List, eqb, ltb, length}
-use Rattle.board.specs.Refusal.{number}
-use Rattle.board.specs.Reply.{Reply, refused, answer, ◌>>◌, check, written}
+use Rattle.board.specs.Reply.{Reply, answer, ◌>>◌, check, written}
 use Rattle.board.specs.Task.{limit}
 use Rattle.batch.specs.Tasks.{tasks_in, entries_of}
-use Rattle.batch.specs.declared.Batched.{Batched}
-use Rattle.batch.specs.declared.Batched.TheVariants as batched
-
--- What an answer of Batch says: how many tasks there are.
-abbrev pub batch_reply : Batched → Reply ℕ
-batch_reply (batched.Tasks k) = answer k
-batch_reply (batched.Refused r) = refused (number r)
 
 -- Batch: 2, more than 60 discs; 13, the tasks do not make up the whole buffer; 6, fewer entries than tasks.
 unfoldable pub batch_answer : ℕ → List ℕ → List ℕ → Reply ℕ

@@ -1,7 +1,7 @@
 -- The refusals and their numbers (document 01, "The operations and when each refuses"; 13: 02, CR 5; 14 to 16: 02, CR 7; 19: 02, CR 9;
 -- 20: 02, CR 10).
-use Rattle.std.specs.Prelude.{ℕ}
-use Rattle.board.specs.Reply.{refused, Check, pass}
+use Rattle.std.specs.Prelude.{ℕ, Result, Ok, Err}
+use Rattle.board.specs.Reply.{Reply, refused, answer}
 use Rattle.board.specs.declared.refusal.Refusal.{Refusal}
 use Rattle.board.specs.declared.refusal.Refusal.TheVariants.{
   OddLength,
@@ -23,8 +23,6 @@ use Rattle.board.specs.declared.refusal.Refusal.TheVariants.{
   EmptyTower,
   TooLargeToTotal,
 }
-use Rattle.board.specs.declared.refusal.Verdict.{Verdict}
-use Rattle.board.specs.declared.refusal.Verdict.TheVariants.{Accepted, Refused}
 
 -- The documents' number of each refusal.
 abbrev pub number : Refusal → ℕ
@@ -47,7 +45,7 @@ number NotShortest = 16
 number EmptyTower = 19
 number TooLargeToTotal = 20
 
--- What a verdict says, in that number.
-abbrev pub verdict_reply : Verdict → Check
-verdict_reply Accepted = pass
-verdict_reply (Refused r) = refused (number r)
+-- What an answer says: its value, or its refusal in that number.
+abbrev pub reply_of : {A : Type 0} → Result A Refusal → Reply A
+reply_of (Ok a) = answer a
+reply_of (Err r) = refused (number r)

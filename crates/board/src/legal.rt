@@ -1,10 +1,10 @@
-// The smallest disc of a peg, and the faults of a move, in document 01's order.
+// The smallest disc of a peg, and the faults of a move, in the order of their checks.
 ghost use Rattle.std.specs.Prelude.{◌≡◌};
 ghost use Rattle.board.specs.Legal.{legal_check};
 ghost use Rattle.board.specs.Move.{top};
-ghost use Rattle.board.specs.Refusal.{verdict_reply};
+ghost use Rattle.board.specs.Refusal.{reply_of};
 
-use crate::refusal::{Refusal, Verdict};
+use crate::refusal::Refusal;
 
 // The place of a peg's smallest disc, or the number of discs where the peg is empty.
 pub fn top_of(position: &[u8], peg: u8) -> usize
@@ -20,24 +20,24 @@ pub fn top_of(position: &[u8], peg: u8) -> usize
 
 // The first fault of a move on a position.
 #[tactic(auto, using(std::proofs::lemmas::Bool::Decides::nat_tests), unfolding(crate::specs::Legal::legal_check))]
-pub fn legal_verdict(position: &[u8], from: u8, to: u8) -> Verdict
-    ensures { verdict_reply result ≡ legal_check position.now (record { from = from; to = to }) }
+pub fn legal_verdict(position: &[u8], from: u8, to: u8) -> Result<(), Refusal>
+    ensures { reply_of result ≡ legal_check position.now (record { from = from; to = to }) }
 {
     if 3 <= from {
-        return Verdict::Refused(Refusal::NotAPeg);
+        return Err(Refusal::NotAPeg);
     }
     if 3 <= to {
-        return Verdict::Refused(Refusal::NotAPeg);
+        return Err(Refusal::NotAPeg);
     }
     if from == to {
-        return Verdict::Refused(Refusal::NoDisc);
+        return Err(Refusal::NoDisc);
     }
     let disc = top_of(position, from);
     if disc == position.len() {
-        return Verdict::Refused(Refusal::NoDisc);
+        return Err(Refusal::NoDisc);
     }
     if top_of(position, to) < disc {
-        return Verdict::Refused(Refusal::SmallerInTheWay);
+        return Err(Refusal::SmallerInTheWay);
     }
-    Verdict::Accepted
+    Ok(())
 }

@@ -1,16 +1,16 @@
-// Positions: the limit on discs, the tests of their bytes, and the faults of a position by itself, in document 01's order.
+// Positions: the limit on discs, the tests of their bytes, and the faults of a position by itself, in the order of their checks.
 ghost use Rattle.std.specs.Prelude.{◌≡◌};
 ghost use Rattle.board.specs.Fewest.{same};
 ghost use Rattle.board.specs.Position.{well_formed};
-ghost use Rattle.board.specs.Refusal.{verdict_reply};
+ghost use Rattle.board.specs.Refusal.{reply_of};
 ghost use Rattle.board.specs.Task.{position_check};
 
-use crate::refusal::{Refusal, Verdict};
+use crate::refusal::Refusal;
 
 // The most discs that a board has.
 pub const LIMIT: usize = 60;
 
-// Whether all bytes are pegs.
+// Whether all bytes are pegs. Each is looked at, with no branch on it.
 pub fn only_pegs(bytes: &[u8]) -> bool
     ensures { result ≡ well_formed bytes.now }
 {
@@ -42,15 +42,15 @@ pub fn same_position(a: &[u8], b: &[u8]) -> bool
 
 // The first fault of a position.
 #[tactic(auto, using(std::proofs::lemmas::Bool::Decides::nat_tests), unfolding(crate::specs::Task::position_check))]
-pub fn position_verdict(position: &[u8]) -> Verdict
-    ensures { verdict_reply result ≡ position_check position.now }
+pub fn position_verdict(position: &[u8]) -> Result<(), Refusal>
+    ensures { reply_of result ≡ position_check position.now }
 {
     if LIMIT < position.len() {
-        return Verdict::Refused(Refusal::TooManyDiscs);
+        return Err(Refusal::TooManyDiscs);
     }
     if only_pegs(position) {
-        Verdict::Accepted
+        Ok(())
     } else {
-        Verdict::Refused(Refusal::NotAPeg)
+        Err(Refusal::NotAPeg)
     }
 }

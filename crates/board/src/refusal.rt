@@ -2,7 +2,10 @@
 ghost use Rattle.std.specs.Prelude.{◌≡◌};
 ghost use Rattle.board.specs.Refusal.{number as number_of};
 
-#[derive(Clone, Copy)]
+use std::error::Error;
+use std::fmt;
+
+#[derive(Clone, Copy, Debug, PartialEq, Eq)]
 pub enum Refusal {
     OddLength,
     TooManyDiscs,
@@ -22,13 +25,6 @@ pub enum Refusal {
     NotShortest,
     EmptyTower,
     TooLargeToTotal,
-}
-
-// What a check of a call's input finds.
-#[derive(Clone, Copy)]
-pub enum Verdict {
-    Accepted,
-    Refused(Refusal),
 }
 
 impl Refusal {
@@ -57,3 +53,12 @@ impl Refusal {
         }
     }
 }
+
+// The word and the number, as the programs print them.
+impl fmt::Display for Refusal {
+    fn fmt<W: fmt::Write>(&self, f: &mut fmt::Formatter<W>) -> fmt::Result {
+        write!(f, "refused {}", self.number())
+    }
+}
+
+impl Error for Refusal {}

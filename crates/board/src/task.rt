@@ -1,25 +1,25 @@
-// The faults of a task, in document 01's order.
+// The faults of a task, in the order of their checks.
 ghost use Rattle.std.specs.Prelude.{◌≡◌};
-ghost use Rattle.board.specs.Refusal.{verdict_reply};
+ghost use Rattle.board.specs.Refusal.{reply_of};
 ghost use Rattle.board.specs.Task.{task_check};
 
 use crate::position::{LIMIT, only_pegs};
-use crate::refusal::{Refusal, Verdict};
+use crate::refusal::Refusal;
 
 // The first fault of a task.
 #[tactic(auto, using(std::proofs::lemmas::Bool::Decides::nat_tests), unfolding(crate::specs::Task::task_check))]
-pub fn task_verdict(task: &[u8]) -> Verdict
-    ensures { verdict_reply result ≡ task_check task.now }
+pub fn task_verdict(task: &[u8]) -> Result<(), Refusal>
+    ensures { reply_of result ≡ task_check task.now }
 {
     if task.len() % 2 == 1 {
-        return Verdict::Refused(Refusal::OddLength);
+        return Err(Refusal::OddLength);
     }
     if LIMIT < task.len() / 2 {
-        return Verdict::Refused(Refusal::TooManyDiscs);
+        return Err(Refusal::TooManyDiscs);
     }
     if only_pegs(task) {
-        Verdict::Accepted
+        Ok(())
     } else {
-        Verdict::Refused(Refusal::NotAPeg)
+        Err(Refusal::NotAPeg)
     }
 }

@@ -1,35 +1,35 @@
 // Add and Remove: the largest disc slid under the tower, and taken out again.
 ghost use Rattle.std.specs.Prelude.{◌≡◌};
-ghost use Rattle.board.specs.Refusal.{verdict_reply};
+ghost use Rattle.board.specs.Refusal.{reply_of};
 ghost use Rattle.board.specs.Reply.{pass};
 ghost use Rattle.builder.specs.Answer.{add_answer, add_leaves, remove_answer, remove_leaves, with_disc, without_disc};
 
 use crate::lengths::{with_disc, without_disc};
 use crate::record::Builder;
 use crate::sound::is_sound;
-use board::{LIMIT, Refusal, Verdict};
+use board::{LIMIT, Refusal};
 
 // An answer, and the builder after it.
 #[derive(Clone, Copy)]
 pub struct Built {
-    pub verdict: Verdict,
+    pub verdict: Result<(), Refusal>,
     pub builder: Builder,
 }
 
 // The first fault of an addition.
-fn add_verdict(b: Builder, peg: u8) -> Verdict
-    ensures { verdict_reply result ≡ add_answer b peg }
+fn add_verdict(b: Builder, peg: u8) -> Result<(), Refusal>
+    ensures { reply_of result ≡ add_answer b peg }
 {
     if !is_sound(b) {
-        return Verdict::Refused(Refusal::UnsoundRecord);
+        return Err(Refusal::UnsoundRecord);
     }
     if b.n == LIMIT {
-        return Verdict::Refused(Refusal::TooManyDiscs);
+        return Err(Refusal::TooManyDiscs);
     }
     if 2 < peg {
-        return Verdict::Refused(Refusal::NotAPeg);
+        return Err(Refusal::NotAPeg);
     }
-    Verdict::Accepted
+    Ok(())
 }
 
 // The builder with one disc more.
@@ -51,31 +51,31 @@ fn added(b: Builder, peg: u8) -> Builder
 
 // Add: a new largest disc on a peg. Refuses with 10, 2 and 3, and the builder is then as it was.
 pub fn add(builder: Builder, peg: u8) -> Built
-    ensures { (verdict_reply result.verdict ≡ add_answer builder peg) × (result.builder ≡ add_leaves builder peg) }
+    ensures { (reply_of result.verdict ≡ add_answer builder peg) × (result.builder ≡ add_leaves builder peg) }
 {
     match add_verdict(builder, peg) {
-        Verdict::Refused(why) => Built {
-            verdict: Verdict::Refused(why),
+        Err(why) => Built {
+            verdict: Err(why),
             builder,
         },
-        Verdict::Accepted => Built {
-            verdict: Verdict::Accepted,
+        Ok(()) => Built {
+            verdict: Ok(()),
             builder: added(builder, peg),
         },
     }
 }
 
 // The first fault of a removal.
-fn remove_verdict(b: Builder) -> Verdict
-    ensures { verdict_reply result ≡ remove_answer b }
+fn remove_verdict(b: Builder) -> Result<(), Refusal>
+    ensures { reply_of result ≡ remove_answer b }
 {
     if !is_sound(b) {
-        return Verdict::Refused(Refusal::UnsoundRecord);
+        return Err(Refusal::UnsoundRecord);
     }
     if b.n == 0 {
-        return Verdict::Refused(Refusal::EmptyTower);
+        return Err(Refusal::EmptyTower);
     }
-    Verdict::Accepted
+    Ok(())
 }
 
 // The builder with its largest disc gone.
@@ -98,15 +98,15 @@ fn removed(b: Builder) -> Builder
 
 // Remove: the largest disc is taken out. Refuses with 10 and 19, and the builder is then as it was.
 pub fn remove(builder: Builder) -> Built
-    ensures { (verdict_reply result.verdict ≡ remove_answer builder) × (result.builder ≡ remove_leaves builder) }
+    ensures { (reply_of result.verdict ≡ remove_answer builder) × (result.builder ≡ remove_leaves builder) }
 {
     match remove_verdict(builder) {
-        Verdict::Refused(why) => Built {
-            verdict: Verdict::Refused(why),
+        Err(why) => Built {
+            verdict: Err(why),
             builder,
         },
-        Verdict::Accepted => Built {
-            verdict: Verdict::Accepted,
+        Ok(()) => Built {
+            verdict: Ok(()),
             builder: removed(builder),
         },
     }

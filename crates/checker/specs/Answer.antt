@@ -1,20 +1,12 @@
 -- What the checker answers (02, CR 7).
 use Rattle.std.specs.Prelude.{ℕ, ◌%◌, not, cond, ◌||◌, List, eqb, ltb, length}
 use Rattle.board.specs.Fewest.{same, fewest}
-use Rattle.board.specs.Refusal.{number}
-use Rattle.board.specs.Reply.{Reply, refused, answer, ◌>>◌, Check, check}
+use Rattle.board.specs.Reply.{Reply, answer, ◌>>◌, Check, check}
 use Rattle.board.specs.Task.{start, goal, task_check}
 use Rattle.route.specs.Answer.{task_route, letters}
 use Rattle.route.specs.Ours.{read_moves}
 use Rattle.checker.specs.Letters.{all_letters}
 use Rattle.checker.specs.Moves.{all_legal, leads_to}
-use Rattle.checker.specs.declared.Checked.{Checked}
-use Rattle.checker.specs.declared.Checked.TheVariants as checked
-
--- What an answer of the checker says: the number of the route.
-abbrev pub checked_reply : Checked → Reply ℕ
-checked_reply (checked.Route k) = answer k
-checked_reply (checked.Refused r) = refused (number r)
 
 -- The faults of the bytes l as a route from s to g: 14, odd length or a byte other than A, B, C; 15, some move is not legal at its turn; 16,
 -- the goal is not reached at the end, or it is reached with more than the fewest moves.

@@ -4,8 +4,6 @@ ghost use Rattle.board.specs.Fewest.{same};
 ghost use Rattle.checker.specs.Inner.Ours.{OneOfOurs};
 ghost use Rattle.route.specs.Answer.{count_of, task_route, letters as letters_of};
 
-use route::Moving;
-
 // Whether the letters of one of our routes are those of route 0. The two routes of a tie differ in their first move.
 pub fn is_first(task: &[u8], routes: u64, letters: &[u8]) -> bool
     requires routes_value { routes ≡ count_of task.now }
@@ -16,12 +14,7 @@ pub fn is_first(task: &[u8], routes: u64, letters: &[u8]) -> bool
         return true;
     }
     match route::move_at(task, 0, 0) {
-        Moving::Refused(_) => false,
-        Moving::Move(m, _) => {
-            if letters[0] != 65 + m.from {
-                return false;
-            }
-            letters[1] == 65 + m.to
-        }
+        Err(_) => false,
+        Ok((first, _)) => letters[0] == 65 + first.from && letters[1] == 65 + first.to,
     }
 }

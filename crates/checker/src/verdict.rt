@@ -1,39 +1,38 @@
-// The faults of letter pairs, in document 02's order: 14, 15 and 16.
+// The faults of letter pairs, in the order of their checks: 14, 15 and 16.
 ghost use Rattle.std.specs.Prelude.{◌≡◌};
 ghost use Rattle.board.specs.Fewest.{fewest};
-ghost use Rattle.board.specs.Refusal.{verdict_reply};
+ghost use Rattle.board.specs.Refusal.{reply_of};
 ghost use Rattle.checker.specs.Answer.{letters_check};
-ghost use Rattle.plan.specs.Inner.Sound.{Ends};
 
 use crate::letters::only_letters;
 use crate::walking::walk;
-use board::{Refusal, Verdict};
+use board::Refusal;
+use plan::Task;
 
 // The first fault of letter pairs between two positions so many moves apart, in one pass: the walk reads the letters up to the first pair that is
 // no legal move, and from there on they are only asked for being letters.
-pub fn letters_verdict(start: &[u8], goal: &[u8], shortest: u64, letters: &[u8]) -> Verdict
-    requires ends { Ends start.now goal.now }
-    requires shortest_value { shortest ≡ fewest start.now goal.now }
-    ensures { verdict_reply result ≡ letters_check start.now goal.now letters.now }
+pub fn letters_verdict(task: &Task, shortest: u64, letters: &[u8]) -> Result<(), Refusal>
+    requires { shortest ≡ fewest task.now.start.now task.now.goal.now }
+    ensures { reply_of result ≡ letters_check task.now.start.now task.now.goal.now letters.now }
 {
     if letters.len() % 2 == 1 {
-        return Verdict::Refused(Refusal::NotLetterPairs);
+        return Err(Refusal::NotLetterPairs);
     }
-    let walked = walk(start, goal, letters);
+    let walked = walk(task, letters);
     let made = walked.made;
     if made < letters.len() / 2 {
         let read = 2 * made;
         if only_letters(&letters[read..]) {
-            return Verdict::Refused(Refusal::IllegalMove);
+            return Err(Refusal::IllegalMove);
         }
-        return Verdict::Refused(Refusal::NotLetterPairs);
+        return Err(Refusal::NotLetterPairs);
     }
     if shortest != made as u64 {
-        return Verdict::Refused(Refusal::NotShortest);
+        return Err(Refusal::NotShortest);
     }
     if walked.there {
-        Verdict::Accepted
+        Ok(())
     } else {
-        Verdict::Refused(Refusal::NotShortest)
+        Err(Refusal::NotShortest)
     }
 }

@@ -5,13 +5,13 @@ ghost use Rattle.board.specs.Fewest.{same};
 ghost use Rattle.board.specs.Position.{WellFormed};
 ghost use Rattle.board.specs.Task.{limit};
 ghost use Rattle.checker.specs.Inner.Walk.{letter_of, Kept, may_move, Walks};
-ghost use Rattle.plan.specs.Inner.Sound.{Ends};
 ghost use Rattle.route.specs.Ours.{read_moves};
 ghost use Rattle.run.specs.Inner.Pegs.{arrays};
 
 use crate::letters::{is_letter, wide};
 use crate::stacks::{Stacks, move_disc, take_off};
 use board::LIMIT;
+use plan::Task;
 
 // How many moves were made, and whether they lead to the goal.
 #[derive(Clone, Copy)]
@@ -88,10 +88,10 @@ fn stands(
 }
 
 // Makes the moves of letter pairs from a start on, up to the first pair that is no legal move.
-pub fn walk(start: &[u8], goal: &[u8], letters: &[u8]) -> Walked
-    requires { Ends start.now goal.now }
-    ensures { Walks start.now (read_moves letters.now) goal.now result }
+pub fn walk(task: &Task, letters: &[u8]) -> Walked
+    ensures { Walks task.now.start.now (read_moves letters.now) task.now.goal.now result }
 {
+    let start = task.start;
     if start.len() == 0 {
         return Walked {
             made: 0,
@@ -123,6 +123,6 @@ pub fn walk(start: &[u8], goal: &[u8], letters: &[u8]) -> Walked
     }
     Walked {
         made: i,
-        there: stands(small, second, top, &beneath, goal),
+        there: stands(small, second, top, &beneath, task.goal),
     }
 }

@@ -3,7 +3,7 @@ use Prim.Native.Nat.{ℕ, ◌≤◌, ◌<◌}
 use mathlib.Core.List.{List, ◌++◌, append-nil}
 use mathlib.Core.Logic.{◌↔◌}
 use mathlib.Core.Bool.{true, not}
-use mathlib.Core.Path.{◌≡◌, ◌∙◌, sym}
+use mathlib.Core.Path.{◌≡◌, ◌∙◌, sym, ap}
 use native.Mathlib.Omega.{arith}
 use borrow.Author.Tests.{le-ltb, ltb-true, ltb-false, not-true, not-false}
 use lib.Dec.{ltb}
@@ -14,12 +14,13 @@ use Rattle.board.specs.Position.{peg, WellFormed}
 use Rattle.board.specs.Reply.{refused, answer, pass}
 use Rattle.board.specs.Task.{limit, start, goal, task_check, position_check}
 use Rattle.board.proofs.Obeys.{answer_obeys, check_obeys, then_obeys}
-use Rattle.board.proofs.Replies.{then_answered, then_refused, check_answered}
+use Rattle.board.proofs.Replies.{answer_same, then_answered, then_refused, check_answered}
 use Rattle.board.proofs.Tasks.{SoundTask, SoundPosition, task_accepted, faultless_accepted, position_accepted, joined_task, joined_accepted, task_obeys, position_obeys}
 use Rattle.plan.specs.Answer.{gather_answer, plan_answer}
 use Rattle.plan.specs.Faults.{gather_faults}
 use Rattle.plan.specs.Gather.{gather}
 use Rattle.plan.specs.Plan.{plan_of, shortest}
+use Rattle.plan.specs.Inner.Read.{read_answer}
 use Rattle.plan.specs.Stacks.{Stacks}
 use Rattle.plan.specs.declared.answer.Plan.{Plan}
 use Rattle.plan.proofs.Optimal.{fewest_shortest, gather_fewest}
@@ -41,6 +42,29 @@ plan_obeys t = rw (← append-nil (task_faults t)) (then_obeys (task_obeys t) (a
 pub plan_accepts : (t : List ℕ) → Faultless (task_faults t) → plan_answer t ≡ answer (plan_of (start t) (goal t))
 unfolding plan_answer
 plan_accepts t none = rw (faultless_accepted t none)
+
+-- A task that cannot be read has no plan.
+pub read_refused : (t : List ℕ) {k : ℕ} → refused k ≡ read_answer t → refused k ≡ plan_answer t
+unfolding read_answer plan_answer
+read_refused t e = rw (then_refused (task_check t) _ (sym e))
+
+-- What a reading says: the task is accepted, and these are its halves.
+pub record Read (t s g : List ℕ) : Type 0 where
+  pub accepted : task_check t ≡ pass
+  pub from : s ≡ start t
+  pub to : g ≡ goal t
+
+pub read_ends : (t : List ℕ) {s g : List ℕ} → answer (s, g) ≡ read_answer t → Read t s g
+unfolding read_answer
+read_ends t {s} {g} e =
+    let (accepted, same) = then_answered (task_check t) (answer (start t, goal t)) (sym e) in
+    let both = answer_same same in
+    record { accepted = accepted; from = sym (ap (λ (e : List ℕ × List ℕ). e.0) both); to = sym (ap (λ (e : List ℕ × List ℕ). e.1) both) }
+
+-- Its plan is that of its ends.
+pub read_planned : (t : List ℕ) {s g : List ℕ} → answer (s, g) ≡ read_answer t → answer (plan_of s g) ≡ plan_answer t
+unfolding plan_answer
+read_planned t e = let o = read_ends t e in rw (o.from, o.to, o.accepted)
 
 -- So is one made of two positions of one size.
 pub plan_joined : (p q : List ℕ) → length p ≡ length q → length p ≤ limit → WellFormed p → WellFormed q → plan_answer (p ++ q) ≡ answer (plan_of p q)

@@ -1,21 +1,11 @@
 -- What Gather and Plan answer (document 01, "The operations and when each refuses").
 use Rattle.std.specs.Prelude.{ℕ, not, List, ltb, length}
 use Rattle.board.specs.Position.{peg}
-use Rattle.board.specs.Refusal.{number}
-use Rattle.board.specs.Reply.{Reply, refused, answer, ◌>>◌, check}
+use Rattle.board.specs.Reply.{Reply, answer, ◌>>◌, check}
 use Rattle.board.specs.Task.{start, goal, task_check, position_check}
 use Rattle.plan.specs.Gather.{gather}
 use Rattle.plan.specs.Plan.{plan_of}
-use Rattle.plan.specs.declared.answer.Gathered.{Gathered}
-use Rattle.plan.specs.declared.answer.Gathered.TheVariants as gathered
 use Rattle.plan.specs.declared.answer.Plan.{Plan}
-use Rattle.plan.specs.declared.answer.Planned.{Planned}
-use Rattle.plan.specs.declared.answer.Planned.TheVariants as planned
-
--- What an answer of Gather says: the length.
-abbrev pub gather_reply : Gathered → Reply ℕ
-gather_reply (gathered.Length k) = answer k
-gather_reply (gathered.Refused r) = refused (number r)
 
 -- Gather: 2; 3 for a byte or the peg.
 unfoldable pub gather_answer : List ℕ → ℕ → Reply ℕ
@@ -24,13 +14,8 @@ gather_answer p j = do
   check (not (ltb j 3)) 3
   answer (gather (peg p) (length p) j)
 
--- What an answer of Plan says: still, direct, detour or tie, each with its lengths, in the plan's `way`; and what document 01 leaves free,
--- the number of discs, the largest that moves and its two pegs.
-abbrev pub plan_reply : Planned → Reply Plan
-plan_reply (planned.Plan p) = answer p
-plan_reply (planned.Refused r) = refused (number r)
-
--- Plan: task faults.
+-- Plan: task faults. The answer is still, direct, detour or tie, each with its lengths, in the plan's `way`; and what is left free, the
+-- number of discs, the largest that moves and its two pegs.
 unfoldable pub plan_answer : List ℕ → Reply Plan
 plan_answer t = do
   task_check t

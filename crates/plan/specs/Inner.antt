@@ -1,4 +1,5 @@
 -- What only the functions and the proofs of this library say to each other: no promise of a call uses it.
 pub mod Sound
 pub mod Together
+pub mod Read
 pub mod Three

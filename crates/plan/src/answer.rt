@@ -1,25 +1,16 @@
-// What Gather and Plan answer.
+// A plan.
 ghost use Rattle.std.specs.Prelude.{◌≡◌};
 ghost use Rattle.plan.specs.Plan.{way_of, shortest as shortest_of, routes as routes_of};
 
-use board::Refusal;
-
-// Gather's answer.
-#[derive(Clone, Copy)]
-pub enum Gathered {
-    Length(u64),
-    Refused(Refusal),
-}
-
 // The lengths of the one-move and of the two-move plan.
-#[derive(Clone, Copy)]
+#[derive(Clone, Copy, Debug, PartialEq, Eq)]
 pub struct Lengths {
     pub direct: u64,
     pub detour: u64,
 }
 
 // Which plan is the shorter. Still: no disc moves.
-#[derive(Clone, Copy)]
+#[derive(Clone, Copy, Debug, PartialEq, Eq)]
 pub enum Way {
     Still,
     Direct(Lengths),
@@ -29,20 +20,13 @@ pub enum Way {
 
 // A plan: the number of discs, the largest disc that moves with the pegs that it leaves and reaches (all 0 where none moves), and
 // the way.
-#[derive(Clone, Copy)]
+#[derive(Clone, Copy, Debug, PartialEq, Eq)]
 pub struct Plan {
     pub discs: usize,
     pub largest: usize,
     pub from: u8,
     pub to: u8,
     pub way: Way,
-}
-
-// Plan's answer.
-#[derive(Clone, Copy)]
-pub enum Planned {
-    Plan(Plan),
-    Refused(Refusal),
 }
 
 impl Way {

@@ -1,20 +1,17 @@
 -- What Move, Place, Run and Locate answer, and what they leave of a lent buffer (document 01, "The operations and when each refuses").
-use Rattle.std.specs.Prelude.{ℕ, ◌+◌, ◌-◌, ◌/◌, min, Bool, not, cond, ◌&&◌, List, [], ◌∷◌, eqb, ltb, length, take, drop}
+use Rattle.std.specs.Prelude.{ℕ, ◌+◌, ◌-◌, ◌/◌, min, Bool, not, cond, ◌&&◌, List, [], ◌∷◌, eqb, ltb, length, take, drop, Option, Some, None, Result, Ok, Err}
 use Rattle.board.specs.Fewest.{fewest, same}
 use Rattle.board.specs.Position.{well_formed}
 use Rattle.board.specs.Refusal.{number}
 use Rattle.board.specs.Reply.{Reply, refused, answer, ◌>>◌, ◌>>=◌, Check, check, written}
+use Rattle.board.specs.declared.refusal.Refusal.{Refusal}
 use Rattle.board.specs.Task.{discs, start, goal, task_check}
 use Rattle.plan.specs.Plan.{plan_of, shortest, routes}
 use Rattle.route.specs.Part.{part_letter, parts_of, part_at}
 use Rattle.route.specs.Route.{route_of, move_at, after}
 use Rattle.route.specs.declared.answer.DiscMove.{DiscMove}
-use Rattle.route.specs.declared.answer.Moving.{Moving}
-use Rattle.route.specs.declared.answer.Moving.TheVariants as moving
-use Rattle.route.specs.declared.answer.Ran.{Ran}
-use Rattle.route.specs.declared.answer.Ran.TheVariants as ran
 use Rattle.route.specs.declared.answer.Located.{Located}
-use Rattle.route.specs.declared.answer.Located.TheVariants as located
+use Rattle.route.specs.declared.part.Part.{Part}
 
 -- The length and the count of shortest routes of a task.
 abbrev pub length_of : List ℕ → ℕ
@@ -34,9 +31,9 @@ route_check t r = do
   check (not (ltb r (count_of t))) 4
 
 -- What an answer of Move says: disc, from and to.
-abbrev pub move_reply : Moving → Reply DiscMove
-move_reply (moving.Move m a) = answer m
-move_reply (moving.Refused r) = refused (number r)
+abbrev pub move_reply : Result (DiscMove × Part) Refusal → Reply DiscMove
+move_reply (Ok (m, a)) = answer m
+move_reply (Err r) = refused (number r)
 
 -- Move: task faults; 4; 5, the index is not below the length.
 unfoldable pub move_answer : List ℕ → ℕ → ℕ → Reply DiscMove
@@ -46,9 +43,9 @@ move_answer t r i = do
   answer (move_at (task_route t r) i)
 
 -- What an answer of Move says too: the letter of its part (02, CR 1).
-abbrev pub part_reply : Moving → Reply ℕ
-part_reply (moving.Move m a) = answer (part_letter a)
-part_reply (moving.Refused r) = refused (number r)
+abbrev pub part_reply : Result (DiscMove × Part) Refusal → Reply ℕ
+part_reply (Ok (m, a)) = answer (part_letter a)
+part_reply (Err r) = refused (number r)
 
 -- The part of the same move; refused as the move is.
 unfoldable pub part_answer : List ℕ → ℕ → ℕ → Reply ℕ
@@ -66,11 +63,6 @@ place_answer t r i out = do
 -- What Place leaves of the buffer: in its first n bytes the position after i moves.
 unfoldable pub place_writes : List ℕ → ℕ → ℕ → List ℕ → List ℕ
 place_writes t r i out = written (do place_answer t r i out; answer (after (start t) (take i (task_route t r)))) out
-
--- What an answer of Run or Parts says: how many moves.
-abbrev pub run_reply : Ran → Reply ℕ
-run_reply (ran.Moves k) = answer k
-run_reply (ran.Refused r) = refused (number r)
 
 -- Run: task faults; 4; 5, the first index is above the length; 6, moves remain and the buffer is below 2 bytes. As many moves as remain or
 -- fit, the lesser.
@@ -100,10 +92,13 @@ pub data Where : Type 0 where
   off : Where
 
 -- What an answer of Locate says.
-abbrev pub locate_reply : Located → Reply Where
-locate_reply (located.On i r) = answer (on i r)
-locate_reply located.Off = answer off
-locate_reply (located.Refused r) = refused (number r)
+abbrev pub where_is : Option Located → Where
+where_is (Some l) = on l.index l.route
+where_is None = off
+
+abbrev pub locate_reply : Result (Option Located) Refusal → Reply Where
+locate_reply (Ok found) = answer (where_is found)
+locate_reply (Err r) = refused (number r)
 
 -- q is on a shortest route from s to g exactly if the fewest by way of q are the fewest.
 unfoldable pub on_route : List ℕ → List ℕ → List ℕ → Bool

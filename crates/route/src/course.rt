@@ -2,14 +2,13 @@
 ghost use Rattle.std.specs.Prelude.{◌≡◌, ◌<◌, ◌≤◌};
 ghost use Rattle.board.specs.Task.{limit};
 ghost use Rattle.plan.specs.Plan.{plan_of};
-ghost use Rattle.plan.specs.Inner.Sound.{Ends};
 ghost use Rattle.route.specs.Inner.Stage.{is_detour, first_peg, first_stop, last_peg, course_of, after_first, stage_of, stage_part};
 
 use crate::part::Part;
-use plan::{Plan, Way};
+use plan::{Plan, Task, Way};
 
 // Disc `disc` + 1 crosses from `from` to `to`, directly or by way of `free`, after `first` moves of gathering.
-#[derive(Clone, Copy)]
+#[derive(Clone, Copy, Debug, PartialEq, Eq)]
 pub struct Course {
     pub disc: usize,
     pub from: u8,
@@ -20,7 +19,7 @@ pub struct Course {
 }
 
 // So many moves of the first gathering left, of the shift left, or of the spreading done.
-#[derive(Clone, Copy)]
+#[derive(Clone, Copy, Debug, PartialEq, Eq)]
 pub enum Stage {
     Gathering(u64),
     Shifting(u64),
@@ -54,11 +53,10 @@ pub fn is_detour(way: Way, route: u64) -> bool
 
 impl Course {
     // The course of a route of a plan in which a disc moves.
-    pub fn of(start: &[u8], goal: &[u8], plan: Plan, route: u64) -> Course
-        requires ends { Ends start.now goal.now }
-        requires plan_value { plan ≡ plan_of start.now goal.now }
+    pub fn of(task: &Task, plan: Plan, route: u64) -> Course
+        requires plan_value { plan ≡ plan_of task.now.start.now task.now.goal.now }
         requires largest_nonzero { 0 < plan.largest }
-        ensures { result ≡ course_of start.now goal.now route }
+        ensures { result ≡ course_of task.now.start.now task.now.goal.now route }
     {
         let disc = plan.largest - 1;
         let way = plan.way;
@@ -70,7 +68,7 @@ impl Course {
             detour: is_detour(way, route),
             first: 0,
         };
-        course.first = plan::stack::gather_discs(start, disc, course.first_peg());
+        course.first = plan::stack::gather_discs(task.start, disc, course.first_peg());
         course
     }
 

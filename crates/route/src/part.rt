@@ -3,7 +3,7 @@ ghost use Rattle.std.specs.Prelude.{◌≡◌};
 ghost use Rattle.route.specs.Part.{part_letter};
 
 // Gathering before the first crossing, a crossing by the largest disc that moves, the shift between two crossings, and spreading.
-#[derive(Clone, Copy)]
+#[derive(Clone, Copy, Debug, PartialEq, Eq)]
 pub enum Part {
     Gather,
     Cross,

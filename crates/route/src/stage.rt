@@ -2,7 +2,7 @@
 ghost use Rattle.std.specs.Prelude.{◌≡◌, ℕ, ◌<◌, ◌≤◌, length, get_or, ltb, cond};
 ghost use Rattle.board.specs.Position.{peg};
 ghost use Rattle.board.specs.Task.{limit};
-ghost use Rattle.plan.specs.Inner.Sound.{Ends, Gatherable};
+ghost use Rattle.plan.specs.Inner.Sound.{Gatherable};
 ghost use Rattle.route.specs.Inner.Along.{along};
 ghost use Rattle.route.specs.Inner.Stage.{CourseFits, StageFits, first_move_of, stage_move, stage_peg};
 
@@ -10,6 +10,7 @@ use crate::answer::DiscMove;
 use crate::course::{Course, Stage};
 use crate::gathering;
 use board::LIMIT;
+use plan::Task;
 
 // The first move with so many moves of a gathering left.
 fn move_along(position: &[u8], k: usize, target: u8, left: u64) -> DiscMove
@@ -21,11 +22,10 @@ fn move_along(position: &[u8], k: usize, target: u8, left: u64) -> DiscMove
 }
 
 // The next move at a stage.
-pub fn stage_move(start: &[u8], goal: &[u8], course: Course, stage: Stage) -> DiscMove
-    requires ends { Ends start.now goal.now }
-    requires course_fits { CourseFits course (length start.now) }
+pub fn stage_move(task: &Task, course: Course, stage: Stage) -> DiscMove
+    requires course_fits { CourseFits course (length task.now.start.now) }
     requires stage_fits { StageFits stage }
-    ensures { result ≡ stage_move (peg start.now) (peg goal.now) course stage }
+    ensures { result ≡ stage_move (peg task.now.start.now) (peg task.now.goal.now) course stage }
 {
     let k = course.disc;
     match stage {
@@ -37,7 +37,7 @@ pub fn stage_move(start: &[u8], goal: &[u8], course: Course, stage: Stage) -> Di
                     to: course.first_stop(),
                 };
             }
-            move_along(start, k, course.first_peg(), left)
+            move_along(task.start, k, course.first_peg(), left)
         }
         Stage::Shifting(left) => {
             if left == 0 {
@@ -51,7 +51,7 @@ pub fn stage_move(start: &[u8], goal: &[u8], course: Course, stage: Stage) -> Di
             move_along(&tower, k, course.from, left)
         }
         Stage::Spreading(done) => {
-            let back = move_along(goal, k, course.last_peg(), done + 1);
+            let back = move_along(task.goal, k, course.last_peg(), done + 1);
             DiscMove {
                 disc: back.disc,
                 from: back.to,
@@ -76,11 +76,11 @@ pub fn with_larger(pegs: [u8; LIMIT], position: &[u8], k: usize) -> [u8; LIMIT]
 }
 
 // The peg of each disc at a stage.
-pub fn stage_pegs(start: &[u8], goal: &[u8], course: Course, stage: Stage) -> [u8; LIMIT]
-    requires ends { Ends start.now goal.now }
-    requires course_fits { CourseFits course (length start.now) }
-    ensures { (d : ℕ) → d < length start.now → get_or result d 0 ≡ stage_peg (peg start.now) (peg goal.now) course stage d }
+pub fn stage_pegs(task: &Task, course: Course, stage: Stage) -> [u8; LIMIT]
+    requires { CourseFits course (length task.now.start.now) }
+    ensures { (d : ℕ) → d < length task.now.start.now → get_or result d 0 ≡ stage_peg (peg task.now.start.now) (peg task.now.goal.now) course stage d }
 {
+    let start = task.start;
     let k = course.disc;
     match stage {
         Stage::Gathering(left) => {
@@ -98,8 +98,8 @@ pub fn stage_pegs(start: &[u8], goal: &[u8], course: Course, stage: Stage) -> [u
             pegs
         }
         Stage::Spreading(done) => {
-            let pegs = gathering::pegs_along(goal, k, course.last_peg(), done);
-            with_larger(pegs, goal, k)
+            let pegs = gathering::pegs_along(task.goal, k, course.last_peg(), done);
+            with_larger(pegs, task.goal, k)
         }
     }
 }

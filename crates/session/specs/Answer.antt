@@ -4,7 +4,7 @@ use Rattle.board.specs.Fewest.{fewest}
 use Rattle.board.specs.Held.{padded}
 use Rattle.board.specs.Legal.{legal_check}
 use Rattle.board.specs.Move.{Move, top, moved}
-use Rattle.board.specs.Refusal.{number, verdict_reply}
+use Rattle.board.specs.Refusal.{number, reply_of}
 use Rattle.board.specs.Reply.{Reply, refused, answer, ◌>>◌, Check, check}
 use Rattle.board.specs.Task.{limit, discs, start, goal, task_check}
 use Rattle.session.specs.Counts.{no_plays, mark_of, counted, fumble, full, figures_of}
@@ -12,16 +12,12 @@ use Rattle.session.specs.Record.{current_of, goal_of, first_of, now_of, sound}
 use Rattle.session.specs.declared.beginning.Begun.{Begun}
 use Rattle.session.specs.declared.counting.Figures.{Figures}
 use Rattle.session.specs.declared.counting.Mark.{Mark}
-use Rattle.session.specs.declared.playing.Played.{Played}
-use Rattle.session.specs.declared.playing.Played.TheVariants as played
 use Rattle.session.specs.declared.record.Session.{Session}
-use Rattle.session.specs.declared.reporting.Reported.{Reported}
-use Rattle.session.specs.declared.reporting.Reported.TheVariants as reported
 
 -- What an answer of Begin says: the record.
 abbrev pub begin_reply : Begun → Reply Session
 begin_reply b = do
-  verdict_reply b.verdict
+  reply_of b.verdict
   answer b.session
 
 -- The record of a task: current is the start, all counts and the fumbles are 0, and what remains is the fewest from start to goal.
@@ -68,11 +64,6 @@ play_check s m = do
   check (full s.counts s.fumbles) 11
   legal_check (current_of s) m
 
--- What an answer of Play says: the mark.
-abbrev pub play_reply : Played → Reply Mark
-play_reply (played.Marked k) = answer k
-play_reply (played.Refused r) = refused (number r)
-
 -- The mark of a move on a record.
 unfoldable pub move_mark : Session → Move → Mark
 move_mark s m = mark_of (now_of s) (fewest (moved (current_of s) m) (goal_of s))
@@ -115,11 +106,6 @@ record_or (answer k) s m = played_record s m k
 
 unfoldable pub play_leaves : Session → Move → Session
 play_leaves s m = record_or (play_answer s m) s m
-
--- What an answer of Report says: the figures.
-abbrev pub report_reply : Reported → Reply Figures
-report_reply (reported.Report f) = answer f
-report_reply (reported.Refused r) = refused (number r)
 
 -- Report: 10.
 unfoldable pub report_answer : Session → Reply Figures

@@ -7,12 +7,12 @@ ghost use Rattle.session.specs.Answer.{no_session, opened as opened_of, begin_re
 use crate::counting::Counts;
 use crate::record::Session;
 use crate::sound::fewest_of;
-use board::{LIMIT, Verdict};
+use board::{LIMIT, Refusal};
 
 // Begin's answer: the record beside the verdict. Where the task is refused it is no sound record.
 #[derive(Clone, Copy)]
 pub struct Begun {
-    pub verdict: Verdict,
+    pub verdict: Result<(), Refusal>,
     pub session: Session,
 }
 
@@ -58,12 +58,12 @@ pub fn begin(task: &[u8]) -> Begun
     ensures session_value { result.session ≡ session_or (begin_answer task.now) }
 {
     match board::task_verdict(task) {
-        Verdict::Refused(why) => Begun {
-            verdict: Verdict::Refused(why),
+        Err(why) => Begun {
+            verdict: Err(why),
             session: no_session(),
         },
-        Verdict::Accepted => Begun {
-            verdict: Verdict::Accepted,
+        Ok(()) => Begun {
+            verdict: Ok(()),
             session: opened(task),
         },
     }

@@ -6,7 +6,7 @@ ghost use Rattle.session.specs.Counts.{no_plays, mark_of, counted, fumble as fum
 use board::Refusal;
 
 // The plays made, and how many of them were toward, level and away.
-#[derive(Clone, Copy)]
+#[derive(Clone, Copy, Debug, PartialEq, Eq)]
 pub struct Counts {
     pub made: u64,
     pub toward: u64,
@@ -15,7 +15,7 @@ pub struct Counts {
 }
 
 // Whether a play brings the goal nearer.
-#[derive(Clone, Copy)]
+#[derive(Clone, Copy, Debug, PartialEq, Eq)]
 pub enum Mark {
     Toward,
     Level,
@@ -23,7 +23,7 @@ pub enum Mark {
 }
 
 // What a report says: the counts, the fewest moves that remain, and the excess.
-#[derive(Clone, Copy)]
+#[derive(Clone, Copy, Debug, PartialEq, Eq)]
 pub struct Figures {
     pub counts: Counts,
     pub remaining: u64,

@@ -1,4 +1,4 @@
-// Begin, Play and Report (document 01): a subject's session on a task.
+// Begin, Play and Report: a subject's session on a task.
 #![tactic(auto)]
 
 mod beginning;
@@ -13,7 +13,7 @@ mod sound;
 pub use beginning::{Begun, begin};
 pub use counting::{Counts, Figures, Mark, PLAY_LIMIT};
 pub use lending::{play, play_on};
-pub use playing::{Played, Stepped, step};
+pub use playing::{Stepped, step};
 pub use record::Session;
 pub use replaying::replay;
-pub use reporting::{Reported, report};
+pub use reporting::report;

@@ -1,39 +1,32 @@
 // Play: one move on a record's current position.
 ghost use Rattle.std.specs.Prelude.{◌≡◌, ◌+◌, ◌<◌, ◌^◌};
-ghost use Rattle.board.specs.Refusal.{number, verdict_reply};
+ghost use Rattle.board.specs.Refusal.{number, reply_of};
 ghost use Rattle.board.specs.Reply.{pass};
-ghost use Rattle.session.specs.Answer.{play_check, play_reply, play_answer, play_leaves, refused_record};
+ghost use Rattle.session.specs.Answer.{play_check, play_answer, play_leaves, refused_record};
 ghost use Rattle.session.specs.Counts.{fumble as fumble_of};
 
 use crate::counting::{Mark, fumble};
 use crate::record::Session;
 use crate::sound::{fewest_held, is_sound};
-use board::{Refusal, Verdict};
-
-// Play's answer.
-#[derive(Clone, Copy)]
-pub enum Played {
-    Marked(Mark),
-    Refused(Refusal),
-}
+use board::Refusal;
 
 // A play's answer and the record after it.
 #[derive(Clone, Copy)]
 pub struct Stepped {
-    pub played: Played,
+    pub played: Result<Mark, Refusal>,
     pub session: Session,
 }
 
 // The first fault of a play.
-fn play_verdict(s: Session, from: u8, to: u8) -> Verdict
-    ensures { verdict_reply result ≡ play_check s (record { from = from; to = to }) }
+fn play_verdict(s: Session, from: u8, to: u8) -> Result<(), Refusal>
+    ensures { reply_of result ≡ play_check s (record { from = from; to = to }) }
 {
     if !is_sound(s) {
-        return Verdict::Refused(Refusal::UnsoundRecord);
+        return Err(Refusal::UnsoundRecord);
     }
     let counts = s.counts;
     if counts.is_full(s.fumbles) {
-        return Verdict::Refused(Refusal::TooManyPlays);
+        return Err(Refusal::TooManyPlays);
     }
     let n = s.n;
     let current = s.current;
@@ -54,7 +47,7 @@ fn refused(s: Session, why: Refusal) -> Session
 // at hand, and one fewest is worked out.
 fn accepted(s: Session, from: u8, to: u8) -> Stepped
     requires { play_check s (record { from = from; to = to }) ≡ pass }
-    ensures { (play_reply result.played ≡ play_answer s (record { from = from; to = to }))
+    ensures { (reply_of result.played ≡ play_answer s (record { from = from; to = to }))
         × (result.session ≡ play_leaves s (record { from = from; to = to })) }
 {
     let n = s.n;
@@ -70,7 +63,7 @@ fn accepted(s: Session, from: u8, to: u8) -> Stepped
     session.counts = counts.with(mark);
     session.remaining = remaining;
     Stepped {
-        played: Played::Marked(mark),
+        played: Ok(mark),
         session,
     }
 }
@@ -78,14 +71,14 @@ fn accepted(s: Session, from: u8, to: u8) -> Stepped
 // Play on a record by value: the mark of a move, and the record after it. Refuses with 10, 11, 3, 8 and 9: after 8 and 9 the record has
 // one fumble more, after the others it is as it was.
 pub fn step(s: Session, from: u8, to: u8) -> Stepped
-    ensures { (play_reply result.played ≡ play_answer s (record { from = from; to = to }))
+    ensures { (reply_of result.played ≡ play_answer s (record { from = from; to = to }))
         × (result.session ≡ play_leaves s (record { from = from; to = to })) }
 {
     match play_verdict(s, from, to) {
-        Verdict::Refused(why) => Stepped {
-            played: Played::Refused(why),
+        Err(why) => Stepped {
+            played: Err(why),
             session: refused(s, why),
         },
-        Verdict::Accepted => accepted(s, from, to),
+        Ok(()) => accepted(s, from, to),
     }
 }

@@ -1,6 +1,7 @@
 // Report: the counts of a record, what remains, and the excess.
 ghost use Rattle.std.specs.Prelude.{true, ◌≡◌};
-ghost use Rattle.session.specs.Answer.{report_reply, report_answer};
+ghost use Rattle.board.specs.Refusal.{reply_of};
+ghost use Rattle.session.specs.Answer.{report_answer};
 ghost use Rattle.session.specs.Counts.{figures_of};
 ghost use Rattle.session.specs.Record.{first_of, now_of, sound};
 
@@ -8,13 +9,6 @@ use crate::counting::Figures;
 use crate::record::Session;
 use crate::sound::{fewest_held, is_sound};
 use board::Refusal;
-
-// Report's answer.
-#[derive(Clone, Copy)]
-pub enum Reported {
-    Report(Figures),
-    Refused(Refusal),
-}
 
 // What a report says of a sound record.
 fn figures(s: Session) -> Figures
@@ -34,12 +28,12 @@ fn figures(s: Session) -> Figures
 }
 
 // Report: the figures of a record. Refuses with 10.
-pub fn report(s: Session) -> Reported
-    ensures { report_reply result ≡ report_answer s }
+pub fn report(s: Session) -> Result<Figures, Refusal>
+    ensures { reply_of result ≡ report_answer s }
 {
     if is_sound(s) {
-        Reported::Report(figures(s))
+        Ok(figures(s))
     } else {
-        Reported::Refused(Refusal::UnsoundRecord)
+        Err(Refusal::UnsoundRecord)
     }
 }

@@ -9,7 +9,7 @@ ghost use Rattle.session.specs.Record.{first_of, now_of, positions_held, sound};
 use crate::counting::PLAY_LIMIT;
 use crate::record::Session;
 use board::{LIMIT, holds_position};
-use plan::crossing::plan_between;
+use plan::Task;
 
 // The fewest moves between two positions.
 pub fn fewest_of(from: &[u8], to: &[u8]) -> u64
@@ -17,7 +17,11 @@ pub fn fewest_of(from: &[u8], to: &[u8]) -> u64
     ensures value { result ≡ fewest from.now to.now }
     ensures upper_bound { result < 2 ^ limit }
 {
-    plan_between(from, to).shortest()
+    let task = Task {
+        start: from,
+        goal: to,
+    };
+    task.plan().shortest()
 }
 
 // The fewest moves between two positions of n discs as a record holds them.

@@ -11,7 +11,6 @@ ghost use Rattle.text.specs.Answer.{answer_text, answered_page, refused_text};
 ghost use Rattle.text.specs.Inner.Page.{Puts, task_text};
 
 use board::Refusal;
-use plan::Planned;
 use put::Page;
 
 // Puts the line of a refusal at the start of a page.
@@ -28,8 +27,8 @@ fn put_task(page: &mut Page, task: &[u8]) -> usize
     ensures upper_bound { result ≤ 8192 }
 {
     match plan::plan(task) {
-        Planned::Refused(why) => put_refusal(page, why),
-        Planned::Plan(p) => report::put_report(page, task, p),
+        Err(why) => put_refusal(page, why),
+        Ok(plan) => report::put_report(page, task, plan),
     }
 }
 

@@ -10,7 +10,6 @@ ghost use Rattle.text.specs.Report.{line, direct_label, detour_label, length_lin
 
 use crate::put::{Page, put, put_decimal, put_line};
 use plan::{Lengths, Plan, Way};
-use run::Ran;
 
 // The most moves of a route that is printed.
 const MOST_MOVES: u64 = 1000;
@@ -82,8 +81,8 @@ fn put_route(page: &mut Page, at: usize, task: &[u8], route: u64, moves: u64) ->
     }
     let mut letters = [0; 2000];
     match run::run(task, route, 0, &mut letters) {
-        Ran::Refused(_) => at,
-        Ran::Moves(count) => put_moves(page, at, &letters, count),
+        Err(_) => at,
+        Ok(count) => put_moves(page, at, &letters, count),
     }
 }
 

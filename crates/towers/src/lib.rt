@@ -9,9 +9,6 @@ ghost use Rattle.route.specs.Answer.{run_writes};
 ghost use Rattle.word.specs.Words.{shortest_word, Tells};
 ghost use Rattle.towers.specs.Words.{routes_word, gather_word, run_word, batch_word};
 
-use batch::Batched;
-use plan::{Gathered, Planned};
-use run::Ran;
 use word::{refusal_word, shortest_word};
 
 // Plan's shortest: the fewest moves of a task.
@@ -28,8 +25,8 @@ pub extern "C" fn tower_routes(task: &[u8]) -> u64
     ensures { result ≡ routes_word task.now }
 {
     match plan::plan(task) {
-        Planned::Plan(p) => p.routes(),
-        Planned::Refused(why) => refusal_word(why),
+        Ok(plan) => plan.routes(),
+        Err(why) => refusal_word(why),
     }
 }
 
@@ -39,8 +36,8 @@ pub extern "C" fn tower_gather(position: &[u8], peg: u8) -> u64
     ensures { result ≡ gather_word position.now peg }
 {
     match plan::gather(position, peg) {
-        Gathered::Length(moves) => moves,
-        Gathered::Refused(why) => refusal_word(why),
+        Ok(moves) => moves,
+        Err(why) => refusal_word(why),
     }
 }
 
@@ -51,8 +48,8 @@ pub extern "C" fn tower_run(task: &[u8], route: u64, first: u64, out: &mut [u8])
     ensures out_after { out.new ≡ run_writes task.now route first out.old }
 {
     match run::run(task, route, first, out) {
-        Ran::Moves(count) => count as u64,
-        Ran::Refused(why) => refusal_word(why),
+        Ok(count) => count as u64,
+        Err(why) => refusal_word(why),
     }
 }
 
@@ -65,7 +62,7 @@ pub extern "C" fn tower_batch(n: u64, tasks: &[u8], out: &mut [u64]) -> u64
     ensures tells { Tells result (batch_answer n tasks.now out.old) }
 {
     match batch::batch(n, tasks, out) {
-        Batched::Tasks(count) => count as u64,
-        Batched::Refused(why) => refusal_word(why),
+        Ok(count) => count as u64,
+        Err(why) => refusal_word(why),
     }
 }

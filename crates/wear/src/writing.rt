@@ -1,13 +1,11 @@
 // The wears of a route, from the largest disc downwards: no move is stepped through.
 ghost use Rattle.std.specs.Prelude.{◌++◌, ◌≡◌, ◌-◌, ◌<◌, ◌≤◌, length, take, drop, replicate};
 ghost use Rattle.board.specs.Position.{peg};
-ghost use Rattle.plan.specs.Plan.{plan_of};
-ghost use Rattle.plan.specs.Inner.Sound.{Ends};
 ghost use Rattle.route.specs.Route.{route_of};
 ghost use Rattle.wear.specs.Inner.Below.{wears_below, Writable};
 ghost use Rattle.wear.specs.Wear.{wears};
 
-use plan::Plan;
+use route::Opened;
 use route::course::is_detour;
 
 // Writes 0 for discs m + 1 to n.
@@ -55,34 +53,31 @@ fn write_smaller(
 }
 
 // Writes the wears of the discs up to the largest that moves, which crosses once on a direct route, and twice on a detour, with one gap.
-fn write_moved(start: &[u8], goal: &[u8], p: Plan, route: u64, out: &mut [u64])
-    requires ends { Ends start.now goal.now }
-    requires p_value { p ≡ plan_of start.now goal.now }
-    requires largest_nonzero { (0 < p.largest) × (p.largest ≤ length out.old) }
-    ensures { out.new ≡ wears p.largest (route_of start.now goal.now route) ++ drop p.largest out.old }
+fn write_moved(opened: &Opened, out: &mut [u64])
+    requires { (0 < opened.now.plan.largest) × (opened.now.plan.largest ≤ length out.old) }
+    ensures { out.new ≡ wears opened.now.plan.largest (route_of opened.now.task.start.now opened.now.task.goal.now opened.now.route) ++ drop opened.now.plan.largest out.old }
 {
-    let disc = p.largest - 1;
-    let way = p.way;
-    if is_detour(way, route) {
+    let task = opened.task;
+    let plan = opened.plan;
+    let disc = plan.largest - 1;
+    if is_detour(plan.way, opened.route) {
         out[disc] = 2;
-        write_smaller(start, goal, disc, p.to, p.from, 1, out);
+        write_smaller(task.start, task.goal, disc, plan.to, plan.from, 1, out);
     } else {
-        let free = board::third(p.from, p.to);
+        let free = board::third(plan.from, plan.to);
         out[disc] = 1;
-        write_smaller(start, goal, disc, free, free, 0, out);
+        write_smaller(task.start, task.goal, disc, free, free, 0, out);
     }
 }
 
 // Writes the wear of each disc on a route.
-pub fn write_wears(start: &[u8], goal: &[u8], p: Plan, route: u64, out: &mut [u64])
-    requires ends { Ends start.now goal.now }
-    requires p_value { p ≡ plan_of start.now goal.now }
-    requires start_in_bounds { length start.now ≤ length out.old }
-    ensures { out.new ≡ wears (length start.now) (route_of start.now goal.now route) ++ drop (length start.now) out.old }
+pub fn write_wears(opened: &Opened, out: &mut [u64])
+    requires { length opened.now.task.start.now ≤ length out.old }
+    ensures { out.new ≡ wears (length opened.now.task.start.now) (route_of opened.now.task.start.now opened.now.task.goal.now opened.now.route) ++ drop (length opened.now.task.start.now) out.old }
 {
-    write_unmoved(p.largest, start.len(), out);
-    if p.largest == 0 {
+    write_unmoved(opened.plan.largest, opened.task.discs(), out);
+    if opened.plan.largest == 0 {
         return;
     }
-    write_moved(start, goal, p, route, out);
+    write_moved(opened, out);
 }

@@ -7,7 +7,6 @@ ghost use Rattle.board.specs.Reply.{refused};
 ghost use Rattle.word.specs.Words.{word, shortest_word};
 
 use board::Refusal;
-use plan::Planned;
 
 // The largest number of 64 bits.
 const LARGEST: u64 = 18446744073709551615;
@@ -24,7 +23,7 @@ pub fn shortest_word(task: &[u8]) -> u64
     ensures { result ≡ shortest_word task.now }
 {
     match plan::plan(task) {
-        Planned::Plan(p) => p.shortest(),
-        Planned::Refused(why) => refusal_word(why),
+        Ok(plan) => plan.shortest(),
+        Err(why) => refusal_word(why),
     }
 }

@@ -6,4 +6,4 @@ use Rattle.plan.proofs.gather.Goals as goal
 
 pub gather_discs-requires : goal.gather_discs-requires
 gather_discs-requires c =
-    position_gatherable (position_accepted _ (sym c.in-Accepted.ensures)) (omega arith)
+    position_gatherable (position_accepted _ (sym c.in_ok-position_verdict.ensures)) (omega arith)

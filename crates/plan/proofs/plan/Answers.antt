@@ -1,37 +1,14 @@
--- `plan::plan` meets its contract: at each return the verdict is that of the rule, and the halves of an accepted task are its ends.
--- Assumes nothing.
-use mathlib.Core.Path.{◌∙◌, sym, ap}
-use native.Mathlib.Omega.{arith}
-use lib.ListN.{length-take}
-use Rattle.board.specs.Refusal.{verdict_reply}
-use Rattle.board.proofs.Tasks.{task_accepted}
-use Rattle.plan.specs.Answer.{plan_answer}
-use Rattle.plan.proofs.Parts.{part_to_end}
-use Rattle.plan.proofs.Sound.{task_ends}
+-- The plan of a task that is read is the plan of its ends.
+use Rattle.std.proofs.lemmas.Result.{err_from_is_err_and}
+use Rattle.plan.proofs.Calls.{read_planned, read_refused}
 use Rattle.plan.proofs.plan.Goals as goal
 
-pub slice_bounds-plan_between-end : goal.slice_bounds-plan_between-end
-slice_bounds-plan_between-end c =
-    simp length-take (omega arith)
-
-pub plan_between-requires : goal.plan_between-requires
-plan_between-requires c =
-    let verdict = c.task_verdict.ensures in
-    rw part_to_end (task_ends (task_accepted _ (sym verdict ∙ ap verdict_reply c.in-Accepted.is)))
-
 -- The task is refused.
-pub returns-in-Refused : goal.returns-in-Refused
-unfolding plan_answer
-returns-in-Refused c =
-    rw (← c.task_verdict.ensures, c.in-Refused.is)
+pub returns-in_err-task : goal.returns-in_err-task
+returns-in_err-task c =
+    let p = err_from_is_err_and c.from_residual.result c.from_residual.ensures.1 in
+    rw (p.1, p.2) (read_refused _ c.in_err-task.ensures)
 
--- The task is accepted.
-pub returns-in-Accepted : goal.returns-in-Accepted
-unfolding plan_answer
-returns-in-Accepted c =
-    rw (
-      ← c.task_verdict.ensures,
-      c.in-Accepted.is,
-      c.plan_between.ensures,
-      part_to_end,
-    )
+-- The task is planned.
+pub returns : goal.returns
+returns c = rw c.plan.ensures (read_planned _ c.in_ok-task.ensures)

@@ -2,7 +2,7 @@
 use mathlib.Core.Path.{◌∙◌, refl, sym, ap}
 use native.Mathlib.Omega.{arith}
 use lib.ListN.{length, length-take}
-use Rattle.plan.specs.Answer.{plan_reply}
+use Rattle.board.specs.Refusal.{reply_of}
 use Rattle.plan.proofs.Parts.{part_to_end}
 use Rattle.route.proofs.Calls.Answers.{run_accepts, run_answered, run_refuses}
 use Rattle.route.proofs.Calls.Lists.{OpenedList, list_opened, list_refused}
@@ -16,21 +16,21 @@ slice_bounds-run_from-end c =
 pub run_from-requires : goal.run_from-requires
 run_from-requires c =
     let opened : OpenedList c.args.task.now c.args.route c.args.first (length c.args.out.now) 2 c.in-Plan.p =
-    list_opened _ _ _ _ _ (sym c.open_list.ensures ∙ ap plan_reply c.in-Plan.is) in
+    list_opened _ _ _ _ _ (sym c.open_list.ensures ∙ ap reply_of c.in-Plan.is) in
     let o = opened in rw part_to_end (record { ends = o.ends; p_value = sym o.plan; route_bound = (o.known, o.within) })
 
 -- A check refuses.
 pub returns-in-Refused : goal.returns-in-Refused
 returns-in-Refused c =
     let refuses = run_refuses c.args.task.now c.args.route c.args.first c.args.out.now
-    (list_refused _ _ _ _ _ (sym c.open_list.ensures ∙ ap plan_reply c.in-Refused.is)) in
+    (list_refused _ _ _ _ _ (sym c.open_list.ensures ∙ ap reply_of c.in-Refused.is)) in
     record { result_value = sym refuses; out_after = sym (run_kept _ _ _ _ refuses) }
 
 -- The moves are written.
 pub returns-in-Plan : goal.returns-in-Plan
 returns-in-Plan c =
     let opened : OpenedList c.args.task.now c.args.route c.args.first (length c.args.out.now) 2 c.in-Plan.p =
-    list_opened _ _ _ _ _ (sym c.open_list.ensures ∙ ap plan_reply c.in-Plan.is) in
+    list_opened _ _ _ _ _ (sym c.open_list.ensures ∙ ap reply_of c.in-Plan.is) in
     let o = opened in
     let l = o.listed in
     let answered = run_accepts _ _ l.routed c.args.first c.args.out.now l.index l.fits in

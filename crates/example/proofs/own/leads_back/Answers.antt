@@ -6,7 +6,7 @@ use borrow.Author.Rules.{rules}
 use borrow.Author.Tests.{eq-eqb}
 use lib.ListN.{take, replicate}
 use lib.Seq.{length-take-le}
-use Rattle.board.specs.Refusal.{verdict_reply}
+use Rattle.board.specs.Refusal.{reply_of}
 use Rattle.board.specs.Reply.{answer, pass}
 use Rattle.board.specs.Task.{limit, discs}
 use Rattle.board.proofs.Replies.{refused_answer}
@@ -18,7 +18,7 @@ use Rattle.example.proofs.own.leads_back.Goals as goal
 pub slice_bounds-pegs-end : goal.slice_bounds-pegs-end
 slice_bounds-pegs-end c =
     let accepted : place_answer c.args.task.now c.args.route c.args.index (replicate limit 0) ≡ pass =
-    sym c.place.ensures.result_value ∙ ap verdict_reply c.in-Accepted.is in
+    sym c.place.ensures.result_value ∙ ap reply_of c.in-Accepted.is in
     let placed = place_answered _ _ _ _ (accepted) in
     rw (c.place.ensures.out_after, placed.sized) placed.within
 
@@ -26,14 +26,14 @@ slice_bounds-pegs-end c =
 pub slice_bounds-locate-end : goal.slice_bounds-locate-end
 slice_bounds-locate-end c =
     let accepted : place_answer c.args.task.now c.args.route c.args.index (replicate limit 0) ≡ pass =
-    sym c.place.ensures.result_value ∙ ap verdict_reply c.in-Accepted.is in
+    sym c.place.ensures.result_value ∙ ap reply_of c.in-Accepted.is in
     let placed = place_answered _ _ _ _ accepted in
     sym (length-take-le _ _ (rw (c.place.ensures.out_after, placed.sized) placed.within))
 
 pub returns-in-On : goal.returns-in-On
 returns-in-On c =
     let accepted : place_answer c.args.task.now c.args.route c.args.index (replicate limit 0) ≡ pass =
-    sym c.place.ensures.result_value ∙ ap verdict_reply c.in-Accepted.is in
+    sym c.place.ensures.result_value ∙ ap reply_of c.in-Accepted.is in
     let located : (l : ℕ) × (locate_reply c.locate.result ≡ answer (on c.args.index l)) =
     let task = c.args.task.now in
     let wrote = c.place.ensures.out_after in
@@ -45,7 +45,7 @@ returns-in-On c =
 pub returns-in-Off : goal.returns-in-Off
 returns-in-Off c =
     let accepted : place_answer c.args.task.now c.args.route c.args.index (replicate limit 0) ≡ pass =
-    sym c.place.ensures.result_value ∙ ap verdict_reply c.in-Accepted.is in
+    sym c.place.ensures.result_value ∙ ap reply_of c.in-Accepted.is in
     let located : (l : ℕ) × (locate_reply c.locate.result ≡ answer (on c.args.index l)) =
     let task = c.args.task.now in
     let wrote = c.place.ensures.out_after in
@@ -57,7 +57,7 @@ returns-in-Off c =
 pub returns-in-Refused-locate : goal.returns-in-Refused-locate
 returns-in-Refused-locate c =
     let accepted : place_answer c.args.task.now c.args.route c.args.index (replicate limit 0) ≡ pass =
-    sym c.place.ensures.result_value ∙ ap verdict_reply c.in-Accepted.is in
+    sym c.place.ensures.result_value ∙ ap reply_of c.in-Accepted.is in
     let located : (l : ℕ) × (locate_reply c.locate.result ≡ answer (on c.args.index l)) =
     let task = c.args.task.now in
     let wrote = c.place.ensures.out_after in

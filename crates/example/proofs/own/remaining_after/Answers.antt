@@ -6,7 +6,8 @@ use Rattle.board.specs.Fewest.{fewest}
 use Rattle.board.specs.Reply.{answer}
 use Rattle.board.specs.Task.{goal}
 use Rattle.board.proofs.Replies.{refused_answer, answer_same}
-use Rattle.session.specs.Answer.{opened, session_or, report_reply, report_answer}
+use Rattle.board.specs.Refusal.{reply_of}
+use Rattle.session.specs.Answer.{opened, session_or, report_answer}
 use Rattle.session.specs.Record.{current_of}
 use Rattle.session.specs.Sessions.{record_after, calls_from}
 use Rattle.session.specs.declared.counting.Figures.{Figures}
@@ -17,7 +18,7 @@ use Rattle.example.proofs.own.remaining_after.Goals as goal
 
 pub returns-in-Report : goal.returns-in-Report
 returns-in-Report c none =
-    let reported : let after = record_after (opened c.args.task.now) (calls_from c.args.plays.now) in Faultless (task_faults c.args.task.now) → (f : Figures) × (report_reply c.report.result ≡ answer f) × (f.remaining ≡ fewest (current_of after) (goal c.args.task.now)) =
+    let reported : let after = record_after (opened c.args.task.now) (calls_from c.args.plays.now) in Faultless (task_faults c.args.task.now) → (f : Figures) × (reply_of c.report.result ≡ answer f) × (f.remaining ≡ fewest (current_of after) (goal c.args.task.now)) =
     λ none. let plays = calls_from c.args.plays.now in
     let begun = begin_accepts c.args.task.now none in
     let reports = (begun_accounted c.args.task.now begun plays).reports in
@@ -25,12 +26,12 @@ returns-in-Report c none =
     let after = c.replay.ensures ∙ ap (λ (s : Session). record_after s plays) session in
     (reports.figures, c.report.ensures ∙ ap report_answer after ∙ reports.answered, reports.remaining) in
     let (f, answered, remaining) = reported none in
-    let same = sym (ap report_reply c.in-Report.is) ∙ answered in
+    let same = sym (ap reply_of c.in-Report.is) ∙ answered in
     cc (answer_same same, remaining)
 
 pub returns-in-Refused : goal.returns-in-Refused
 returns-in-Refused c none =
-    let reported : let after = record_after (opened c.args.task.now) (calls_from c.args.plays.now) in Faultless (task_faults c.args.task.now) → (f : Figures) × (report_reply c.report.result ≡ answer f) × (f.remaining ≡ fewest (current_of after) (goal c.args.task.now)) =
+    let reported : let after = record_after (opened c.args.task.now) (calls_from c.args.plays.now) in Faultless (task_faults c.args.task.now) → (f : Figures) × (reply_of c.report.result ≡ answer f) × (f.remaining ≡ fewest (current_of after) (goal c.args.task.now)) =
     λ none. let plays = calls_from c.args.plays.now in
     let begun = begin_accepts c.args.task.now none in
     let reports = (begun_accounted c.args.task.now begun plays).reports in
@@ -38,4 +39,4 @@ returns-in-Refused c none =
     let after = c.replay.ensures ∙ ap (λ (s : Session). record_after s plays) session in
     (reports.figures, c.report.ensures ∙ ap report_answer after ∙ reports.answered, reports.remaining) in
     let (f, answered, remaining) = reported none in
-    absurd (refused_answer (sym (ap report_reply c.in-Refused.is) ∙ answered))
+    absurd (refused_answer (sym (ap reply_of c.in-Refused.is) ∙ answered))

@@ -9,7 +9,7 @@ use Rattle.plan.proofs.Sound.{task_ends}
 use Rattle.route.specs.Answer.{locate_answer}
 use Rattle.board.specs.Position.{well_formed}
 use mathlib.Core.Bool.{true}
-use Rattle.plan.specs.Answer.{plan_reply}
+use Rattle.board.specs.Refusal.{reply_of}
 use Rattle.plan.proofs.Calls.{PlanAnswered, plan_answered, plan_refused}
 use Rattle.route.proofs.locating.locate.Goals as goal
 
@@ -18,7 +18,7 @@ pub returns-then-position-n : goal.returns-then-position-n
 unfolding locate_answer
 returns-then-position-n c =
     let opened : PlanAnswered c.args.task.now c.in-Plan.p =
-    plan_answered _ (sym c.plan.ensures ∙ ap plan_reply c.in-Plan.is) in
+    plan_answered _ (sym c.plan.ensures ∙ ap reply_of c.in-Plan.is) in
     rw ((opened).accepted, ne_eqb _ _ c.if-position-n.true)
 
 -- A byte of the position is no peg.
@@ -26,7 +26,7 @@ pub returns-then-not-only_pegs : goal.returns-then-not-only_pegs
 unfolding locate_answer
 returns-then-not-only_pegs c =
     let opened : PlanAnswered c.args.task.now c.in-Plan.p =
-    plan_answered _ (sym c.plan.ensures ∙ ap plan_reply c.in-Plan.is) in
+    plan_answered _ (sym c.plan.ensures ∙ ap reply_of c.in-Plan.is) in
     rw (
       (opened).accepted,
       eq-eqb _ _ c.if-position-n.false,
@@ -41,7 +41,7 @@ slice_bounds-locate_between-end c =
 pub locate_between-requires : goal.locate_between-requires
 locate_between-requires c =
     let opened : PlanAnswered c.args.task.now c.in-Plan.p =
-    plan_answered _ (sym c.plan.ensures ∙ ap plan_reply c.in-Plan.is) in
+    plan_answered _ (sym c.plan.ensures ∙ ap reply_of c.in-Plan.is) in
     let o = opened in
     let size = c.if-position-n.false ∙ sym o.sound.start_length in
     let formed : well_formed c.args.position.now ≡ true = cc in
@@ -51,14 +51,14 @@ locate_between-requires c =
 pub returns-in-Refused : goal.returns-in-Refused
 unfolding locate_answer
 returns-in-Refused c =
-    rw (plan_refused _ (sym c.plan.ensures ∙ ap plan_reply c.in-Refused.is))
+    rw (plan_refused _ (sym c.plan.ensures ∙ ap reply_of c.in-Refused.is))
 
 -- The position is located.
 pub returns-else-not-only_pegs : goal.returns-else-not-only_pegs
 unfolding locate_answer
 returns-else-not-only_pegs c =
     let opened : PlanAnswered c.args.task.now c.in-Plan.p =
-    plan_answered _ (sym c.plan.ensures ∙ ap plan_reply c.in-Plan.is) in
+    plan_answered _ (sym c.plan.ensures ∙ ap reply_of c.in-Plan.is) in
     rw (
       (opened).accepted,
       eq-eqb _ _ c.if-position-n.false,

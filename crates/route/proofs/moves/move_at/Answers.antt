@@ -3,7 +3,7 @@ use mathlib.Core.Path.{◌∙◌, refl, sym, ap}
 use native.Mathlib.Omega.{arith}
 use borrow.Author.Tests.{lt-ltb, le-ltb}
 use lib.ListN.{length-take}
-use Rattle.plan.specs.Answer.{plan_reply}
+use Rattle.board.specs.Refusal.{reply_of}
 use Rattle.plan.proofs.Parts.{part_to_end}
 use Rattle.plan.proofs.Sound.{task_ends}
 use Rattle.route.specs.Answer.{move_answer, part_answer}
@@ -15,7 +15,7 @@ pub returns-then-shortest-index : goal.returns-then-shortest-index
 unfolding move_answer part_answer
 returns-then-shortest-index c =
     let opened : OpenedRoute c.args.task.now c.args.route c.in-Plan.p =
-    open_answered _ _ (sym c.open_route.ensures ∙ ap plan_reply c.in-Plan.is) in
+    open_answered _ _ (sym c.open_route.ensures ∙ ap reply_of c.in-Plan.is) in
     let o = opened in
     rw (o.passed, o.plan, ← c.shortest.ensures, le-ltb _ _ c.if-shortest-index.true) (record { result_value = refl; part_value = refl })
 
@@ -26,7 +26,7 @@ slice_bounds-route_move-end c =
 pub route_move-requires : goal.route_move-requires
 route_move-requires c =
     let opened : OpenedRoute c.args.task.now c.args.route c.in-Plan.p =
-    open_answered _ _ (sym c.open_route.ensures ∙ ap plan_reply c.in-Plan.is) in
+    open_answered _ _ (sym c.open_route.ensures ∙ ap reply_of c.in-Plan.is) in
     let o = opened in
     rw part_to_end (record { ends = task_ends o.sound; p_value = sym o.plan; route_bound = (o.known, omega arith) })
 
@@ -34,13 +34,13 @@ route_move-requires c =
 pub returns-in-Refused : goal.returns-in-Refused
 unfolding move_answer part_answer
 returns-in-Refused c =
-    rw (open_refused _ _ (sym c.open_route.ensures ∙ ap plan_reply c.in-Refused.is)) (record { result_value = refl; part_value = refl })
+    rw (open_refused _ _ (sym c.open_route.ensures ∙ ap reply_of c.in-Refused.is)) (record { result_value = refl; part_value = refl })
 
 -- The move and its part are answered.
 pub returns-else-shortest-index : goal.returns-else-shortest-index
 unfolding move_answer part_answer
 returns-else-shortest-index c =
     let opened : OpenedRoute c.args.task.now c.args.route c.in-Plan.p =
-    open_answered _ _ (sym c.open_route.ensures ∙ ap plan_reply c.in-Plan.is) in
+    open_answered _ _ (sym c.open_route.ensures ∙ ap reply_of c.in-Plan.is) in
     let o = opened in
     rw (o.passed, o.plan, ← c.shortest.ensures, lt-ltb _ _ c.if-shortest-index.false) (rw part_to_end at c.route_move.ensures)

@@ -3,7 +3,7 @@
 use mathlib.Core.Path.{◌∙◌, sym, ap}
 use native.Mathlib.Omega.{arith}
 use borrow.Author.Tests.{lt-ltb, le-ltb}
-use Rattle.plan.specs.Answer.{plan_reply}
+use Rattle.board.specs.Refusal.{reply_of}
 use Rattle.route.specs.Inner.Open.{list_check, list_answer}
 use Rattle.route.proofs.Calls.Lists.{Listed, list_passes}
 use Rattle.route.proofs.Calls.Opened.{OpenedRoute, route_passed, open_answered, open_refused}
@@ -15,7 +15,7 @@ pub returns-then-moves-first : goal.returns-then-moves-first
 unfolding list_answer list_check
 returns-then-moves-first c =
     let opened : OpenedRoute c.args.task.now c.args.route c.in-Plan.p =
-    open_answered _ _ (sym c.open_route.ensures ∙ ap plan_reply c.in-Plan.is) in
+    open_answered _ _ (sym c.open_route.ensures ∙ ap reply_of c.in-Plan.is) in
     let o = opened in
     rw (o.passed, o.plan, ← c.shortest-moves.ensures, lt-ltb _ _ c.if-moves-first.true)
 
@@ -24,7 +24,7 @@ pub returns-then-room-size : goal.returns-then-room-size
 unfolding list_answer list_check
 returns-then-room-size c =
     let opened : OpenedRoute c.args.task.now c.args.route c.in-Plan.p =
-    open_answered _ _ (sym c.open_route.ensures ∙ ap plan_reply c.in-Plan.is) in
+    open_answered _ _ (sym c.open_route.ensures ∙ ap reply_of c.in-Plan.is) in
     let o = opened in
     rw (
       o.passed,
@@ -39,14 +39,14 @@ returns-then-room-size c =
 pub returns-in-Refused : goal.returns-in-Refused
 unfolding list_answer list_check
 returns-in-Refused c =
-    rw (open_refused _ _ (sym c.open_route.ensures ∙ ap plan_reply c.in-Refused.is))
+    rw (open_refused _ _ (sym c.open_route.ensures ∙ ap reply_of c.in-Refused.is))
 
 -- All is there.
 pub returns-else-first-moves : goal.returns-else-first-moves
 unfolding list_answer
 returns-else-first-moves c =
     let opened : OpenedRoute c.args.task.now c.args.route c.in-Plan.p =
-    open_answered _ _ (sym c.open_route.ensures ∙ ap plan_reply c.in-Plan.is) in
+    open_answered _ _ (sym c.open_route.ensures ∙ ap reply_of c.in-Plan.is) in
     let o = opened in
     let ready : Listed c.args.task.now c.args.route c.args.first c.args.room c.args.size =
     record {

@@ -8,7 +8,8 @@ use lib.ListN.{length, take, replicate}
 use Rattle.board.specs.Reply.{Reply, answer, pass}
 use Rattle.board.specs.Task.{task_check}
 use Rattle.board.proofs.Replies.{refused_answer}
-use Rattle.route.specs.Answer.{length_of, count_of, task_route, letters, run_reply, run_answer, run_writes}
+use Rattle.board.specs.Refusal.{reply_of}
+use Rattle.route.specs.Answer.{length_of, count_of, task_route, letters, run_answer, run_writes}
 use Rattle.text.specs.Report.{route_text, most_moves}
 use Rattle.text.proofs.Runs.{spaced_letters, long, run_whole, whole_letters_lem}
 use Rattle.route.specs.declared.answer.Ran.{Ran}
@@ -31,9 +32,9 @@ whole {t = t} {r = r} (accepted, known, same) few says writes =
     }
 
 -- So the count is the route's length.
-count : {t out : List ℕ} {r moves : ℕ} {ran : Ran} → ran ≡ Moves moves → Whole t r (run_reply ran) out → moves ≡ length_of t
+count : {t out : List ℕ} {r moves : ℕ} {ran : Ran} → ran ≡ Moves moves → Whole t r (reply_of ran) out → moves ≡ length_of t
 count {t = t} {moves = moves} is w =
-    let same : answer moves ≡ answer (length_of t) = sym (ap run_reply is) ∙ w.counted in cc
+    let same : answer moves ≡ answer (length_of t) = sym (ap reply_of is) ∙ w.counted in cc
 
 pub put_moves-requires : goal.put_moves-requires
 put_moves-requires c =
@@ -44,7 +45,7 @@ put_moves-requires c =
 pub returns-in-Refused : goal.returns-in-Refused
 returns-in-Refused c =
     let its = whole c.requires.task_value (omega arith) c.run.ensures.result_value c.run.ensures.out_after in
-    absurd (refused_answer (sym (ap run_reply c.in-Refused.is) ∙ its.counted))
+    absurd (refused_answer (sym (ap reply_of c.in-Refused.is) ∙ its.counted))
 
 -- The whole route is put.
 pub returns-in-Moves : goal.returns-in-Moves

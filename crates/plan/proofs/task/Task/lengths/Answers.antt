@@ -1,4 +1,4 @@
--- `plan::crossing::lengths` meets its contract: the copies gather as the positions do, the sums fit, and they are those of the rules.
+-- `plan::task::Task::lengths` meets its contract: the copies gather as the positions do, the sums fit, and they are those of the rules.
 -- Assumes nothing.
 use Prim.Native.Nat.{ℕ, ◌+◌, ◌*◌, ◌^◌, ◌≤◌, ◌<◌}
 use mathlib.Core.Path.{◌≡◌, refl}
@@ -19,8 +19,8 @@ use Rattle.plan.specs.declared.answer.Lengths.{Lengths}
 use Rattle.plan.proofs.Sound.{start_gatherable, goal_gatherable}
 use Rattle.plan.proofs.Fits.{shl_power, gather_fits}
 use Rattle.plan.proofs.OnePass.{together_copied}
-use Rattle.plan.proofs.crossing.lengths.Goals as goal
-use Rattle.plan.proofs.crossing.lengths.Goals.{After-gather_together}
+use Rattle.plan.proofs.task.Task.lengths.Goals as goal
+use Rattle.plan.proofs.task.Task.lengths.Goals.{After-gather_together}
 
 -- The direct plan's sum of disc k + 1: the lengths of its two gathers.
 direct_sum : List ℕ → List ℕ → ℕ → ℕ
@@ -55,28 +55,28 @@ room k h = omega (arith, pow_mono h)
 
 pub third-c-requires : goal.third-c-requires
 third-c-requires c =
-    let ends = c.requires.ends in
+    let ends = c.args.self.now.ends in
     (formed_pegs _ ends.start_formed _, formed_pegs _ ends.goal_formed _)
 
 -- A peg fits.
 pub overflow_cast-b : goal.overflow_cast-b
 overflow_cast-b c =
-    omega (arith, formed_pegs _ c.requires.ends.goal_formed c.args.k)
+    omega (arith, formed_pegs _ c.args.self.now.ends.goal_formed c.args.k)
 
 pub overflow_cast-a : goal.overflow_cast-a
 overflow_cast-a c =
-    omega (arith, formed_pegs _ c.requires.ends.start_formed c.args.k)
+    omega (arith, formed_pegs _ c.args.self.now.ends.start_formed c.args.k)
 
 -- What is passed on can be gathered together.
 pub gather_together-requires : goal.gather_together-requires
 gather_together-requires c =
-    let ends = c.requires.ends in
+    let ends = c.args.self.now.ends in
     let third_small : c.third-c.result < 3 = rw c.third-c.ensures (third_peg _ _ (formed_pegs _ ends.start_formed c.args.k)) in
     let within : c.args.k ≤ limit = omega arith in
     record {
       within = within;
-      start_formed = rw (copied_over c.args.start.now c.copy_from_slice.ensures.after) (padded_formed _ ends.start_formed);
-      goal_formed = rw (copied_over c.args.goal.now c.copy_from_slice-2.ensures.after) (padded_formed _ ends.goal_formed);
+      start_formed = rw (copied_over c.args.self.now.start.now c.copy_from_slice.ensures.after) (padded_formed _ ends.start_formed);
+      goal_formed = rw (copied_over c.args.self.now.goal.now c.copy_from_slice-2.ensures.after) (padded_formed _ ends.goal_formed);
       start_direct = third_small;
       goal_direct = third_small;
       start_detour = formed_pegs _ ends.goal_formed _;
@@ -87,11 +87,11 @@ gather_together-requires c =
     }
 
 -- What the sums are at the end.
-sums_left : (c : After-gather_together) → c.gather_together.new.sums ≡ direct_sum c.args.start.now c.args.goal.now c.args.k ∷ detour_sum c.args.start.now c.args.goal.now c.args.k ∷ []
+sums_left : (c : After-gather_together) → c.gather_together.new.sums ≡ direct_sum c.args.self.now.start.now c.args.self.now.goal.now c.args.k ∷ detour_sum c.args.self.now.start.now c.args.self.now.goal.now c.args.k ∷ []
 unfolding direct_sum detour_sum
 sums_left c =
-    let s = c.args.start.now in
-    let t = c.args.goal.now in
+    let s = c.args.self.now.start.now in
+    let t = c.args.self.now.goal.now in
     rw (
       copied_over s c.copy_from_slice.ensures.after,
       copied_over t c.copy_from_slice-2.ensures.after,
@@ -101,21 +101,21 @@ sums_left c =
 
 pub overflow_add-result : goal.overflow_add-result
 overflow_add-result c =
-    rw (sums_left c) (omega (arith, direct_small c.requires.ends c.requires.k_in_bounds))
+    rw (sums_left c) (omega (arith, direct_small c.args.self.now.ends c.requires))
 
 pub overflow_add-result-2 : goal.overflow_add-result-2
 overflow_add-result-2 c =
     let within : c.args.k ≤ limit = omega arith in
     let less : c.args.k < 64 = omega arith in
     rw (sums_left c, shl_power)
-    (omega (arith, detour_small c.requires.ends c.requires.k_in_bounds, pow_mono within))
+    (omega (arith, detour_small c.args.self.now.ends c.requires, pow_mono within))
 
 pub overflow_add-result-3 : goal.overflow_add-result-3
 overflow_add-result-3 c =
     let within : c.args.k ≤ limit = omega arith in
     let less : c.args.k < 64 = omega arith in
     rw (sums_left c, shl_power)
-    (omega (arith, detour_small c.requires.ends c.requires.k_in_bounds, pow_mono within))
+    (omega (arith, detour_small c.args.self.now.ends c.requires, pow_mono within))
 
 -- Both lengths are those of the rules.
 pub returns : goal.returns

@@ -1,4 +1,4 @@
--- `plan::crossing::plan_between` meets its contract, by whether the largest disc that moves is none or one of the discs. Assumes nothing.
+-- `plan::task::Task::plan` meets its contract, by whether the largest disc that moves is none or one of the discs. Assumes nothing.
 use Prim.Native.Nat.{ℕ, zero, suc, ◌-◌, ◌≤◌}
 use mathlib.Core.Path.{◌≡◌, refl}
 use mathlib.Core.Logic.{◌≢◌}
@@ -6,7 +6,7 @@ use native.Mathlib.Omega.{arith}
 use lib.ListN.{length}
 use Rattle.plan.specs.Plan.{lengths_of, way_of, plan_by, plan_of}
 use Rattle.plan.proofs.Largest.{largest_le}
-use Rattle.plan.proofs.crossing.plan_between.Goals as goal
+use Rattle.plan.proofs.task.Task.plan.Goals as goal
 
 -- The plan where disc m is the largest that moves.
 plan_moving : (n : ℕ) (p q : ℕ → ℕ) (m : ℕ) → m ≢ 0
@@ -20,25 +20,25 @@ plan_moving n p q (suc k) h = let less : suc k - 1 ≡ k = omega arith in rw les
 pub returns-then-m-eq0 : goal.returns-then-m-eq0
 unfolding plan_of plan_by
 returns-then-m-eq0 c =
-    rw (← c.largest_moving-m.ensures, c.if-m-eq0.true)
+    rw (← c.largest_moving-m.ensures, c.if-m-eq0.true, c.discs.ensures)
 
-pub bounds-start-k : goal.bounds-start-k
-bounds-start-k c =
-    let within : c.largest_moving-m.result ≤ length c.args.start.now =
+pub bounds-self-k : goal.bounds-self-k
+bounds-self-k c =
+    let within : c.largest_moving-m.result ≤ length c.args.self.now.start.now =
     rw c.largest_moving-m.ensures (largest_le _ _ _) in
     omega (arith, within)
 
-pub bounds-goal-k : goal.bounds-goal-k
-bounds-goal-k c =
-    let within : c.largest_moving-m.result ≤ length c.args.start.now =
+pub bounds-self-k-2 : goal.bounds-self-k-2
+bounds-self-k-2 c =
+    let within : c.largest_moving-m.result ≤ length c.args.self.now.start.now =
     rw c.largest_moving-m.ensures (largest_le _ _ _) in
     omega (arith, within)
 
 pub lengths-requires : goal.lengths-requires
 lengths-requires c =
-    let within : c.largest_moving-m.result ≤ length c.args.start.now =
+    let within : c.largest_moving-m.result ≤ length c.args.self.now.start.now =
     rw c.largest_moving-m.ensures (largest_le _ _ _) in
-    record { ends = c.requires; k_in_bounds = omega (arith, within) }
+    omega (arith, within)
 
 -- A disc moves.
 pub returns : goal.returns
