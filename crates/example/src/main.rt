@@ -3,9 +3,8 @@
 
 mod own;
 
-use board::Verdict;
-use plan::Planned;
-use session::{Played, Reported, Session};
+use board::Refusal;
+use session::{Mark, Session};
 use std::io;
 
 fn main(rt: HostRuntime) -> io::Result<()> {
@@ -21,57 +20,41 @@ fn main(rt: HostRuntime) -> io::Result<()> {
 // The fewest moves, and how many shortest routes there are.
 fn fewest(rt: &impl Print, task: &[u8]) -> io::Result<()> {
     match plan::plan(task) {
-        Planned::Plan(p) => {
-            show::named(rt, b"fewest ", p.shortest())?;
-            show::named(rt, b", routes ", p.routes())?;
-            show::text(rt, b"\n")
-        }
-        Planned::Refused(why) => refusal(rt, why.number()),
+        Ok(plan) => println!(rt; "fewest {}, routes {}", plan.shortest(), plan.routes()),
+        Err(why) => println!(rt; "{why}"),
     }
 }
 
 // A session on a task, or the number of its fault.
 fn session_on(rt: &impl Print, task: &[u8]) -> io::Result<()> {
     let begun = session::begin(task);
-    let verdict = begun.verdict; // a field that is an enum is copied before it is matched or passed
-    match verdict {
-        Verdict::Refused(why) => refusal(rt, why.number()),
-        Verdict::Accepted => plays(rt, begun.session),
+    match begun.verdict {
+        Ok(()) => plays(rt, begun.session),
+        Err(why) => println!(rt; "{why}"),
     }
 }
 
 // The subject moves a disc from B to C, and then tries to move one from B, which is empty.
-fn plays(rt: &impl Print, record: Session) -> io::Result<()> {
-    let first = session::step(record, 1, 2);
-    let marked = first.played;
-    answer(rt, marked)?;
-    let second = session::step(first.session, 1, 0);
-    let refused = second.played;
-    answer(rt, refused)?;
-    report(rt, second.session)
+fn plays(rt: &impl Print, mut record: Session) -> io::Result<()> {
+    answer(rt, session::play(&mut record, 1, 2))?;
+    answer(rt, session::play(&mut record, 1, 0))?;
+    report(rt, record)
 }
 
 // Toward, level or away, or refused with 8 where the peg is empty.
-fn answer(rt: &impl Print, played: Played) -> io::Result<()> {
-    show::played(rt, played)?;
-    show::text(rt, b"\n")
+fn answer(rt: &impl Print, mark: Result<Mark, Refusal>) -> io::Result<()> {
+    show::answer(rt, &mark)?;
+    println!(rt)
 }
 
 fn report(rt: &impl Print, record: Session) -> io::Result<()> {
     match session::report(record) {
-        Reported::Report(figures) => {
-            show::named(rt, b"remaining ", figures.remaining)?;
-            show::named(rt, b", excess ", figures.excess)?;
-            show::named(rt, b", fumbles ", record.fumbles)?;
-            show::text(rt, b"\n")
-        }
-        Reported::Refused(why) => refusal(rt, why.number()),
+        Ok(figures) => println!(rt;
+            "remaining {}, excess {}, fumbles {}",
+            figures.remaining, figures.excess, record.fumbles
+        ),
+        Err(why) => println!(rt; "{why}"),
     }
-}
-
-fn refusal(rt: &impl Print, number: u64) -> io::Result<()> {
-    show::named(rt, b"refused ", number)?;
-    show::text(rt, b"\n")
 }
 
 // Who overlooks that Begin refused holds a record that is not sound, and gets 10.
@@ -82,16 +65,13 @@ fn overlooked(rt: &impl Print, task: &[u8]) -> io::Result<()> {
 
 // Functions of one's own, with contracts that follow from the library's laws.
 fn proved(rt: &impl Print, task: &[u8]) -> io::Result<()> {
-    show::named(rt, b"fewest of ", own::fewest_of(task))?;
-    show::text(rt, b"\n")?;
-    show::named(
-        rt,
-        b"remaining after ",
-        own::remaining_after(task, b"\x01\x02"),
+    println!(rt; "fewest of {}", own::fewest_of(task))?;
+    println!(rt;
+        "remaining after {}",
+        own::remaining_after(task, b"\x01\x02")
     )?;
-    show::text(rt, b"\n")?;
     if own::leads_back(task, 1, 2) {
-        show::text(rt, b"leads back\n")?;
+        println!(rt; "leads back")?;
     }
     Ok(())
 }

@@ -7,18 +7,15 @@ ghost use Rattle.session.specs.Answer.{opened};
 ghost use Rattle.session.specs.Record.{current_of};
 ghost use Rattle.session.specs.Sessions.{record_after, calls_from};
 
-use board::{LIMIT, Verdict};
-use plan::Planned;
-use route::Located;
-use session::Reported;
+use board::LIMIT;
 
 // Of a task without faults, the fewest moves; of any other the contract says nothing.
 pub fn fewest_of(task: &[u8]) -> u64
     ensures { Faultless (task_faults task.now) → result ≡ fewest (start task.now) (goal task.now) }
 {
     match plan::plan(task) {
-        Planned::Plan(p) => p.shortest(),
-        Planned::Refused(_) => 0,
+        Ok(plan) => plan.shortest(),
+        Err(_) => 0,
     }
 }
 
@@ -27,19 +24,13 @@ pub fn leads_back(task: &[u8], route: u64, index: u64) -> bool
     ensures { result ≡ true }
 {
     let mut pegs = [0; LIMIT];
-    match route::place(task, route, index, &mut pegs) {
-        Verdict::Refused(_) => true,
-        Verdict::Accepted => {
-            let n = task.len() / 2;
-            match route::locate(task, &pegs[..n]) {
-                Located::On {
-                    index: found,
-                    route: _,
-                } => found == index,
-                Located::Off => false,
-                Located::Refused(_) => false,
-            }
-        }
+    if route::place(task, route, index, &mut pegs).is_err() {
+        return true;
+    }
+    let n = task.len() / 2;
+    match route::locate(task, &pegs[..n]) {
+        Ok(Some(found)) => found.index == index,
+        _ => false,
     }
 }
 
@@ -49,7 +40,7 @@ pub fn remaining_after(task: &[u8], plays: &[u8]) -> u64
 {
     let begun = session::begin(task);
     match session::report(session::replay(begun.session, plays)) {
-        Reported::Report(figures) => figures.remaining,
-        Reported::Refused(_) => 0,
+        Ok(figures) => figures.remaining,
+        Err(_) => 0,
     }
 }

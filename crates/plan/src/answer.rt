@@ -2,6 +2,8 @@
 ghost use Rattle.std.specs.Prelude.{◌≡◌};
 ghost use Rattle.plan.specs.Plan.{way_of, shortest as shortest_of, routes as routes_of};
 
+use std::fmt;
+
 // The lengths of the one-move and of the two-move plan.
 #[derive(Clone, Copy, Debug, PartialEq, Eq)]
 pub struct Lengths {
@@ -69,5 +71,33 @@ impl Plan {
             Way::Detour(_) => 1,
             Way::Tie(_) => 2,
         }
+    }
+}
+
+// A plan's lengths, as "direct 3 detour 3".
+impl fmt::Display for Lengths {
+    fn fmt<W: fmt::Write>(&self, f: &mut fmt::Formatter<W>) -> fmt::Result {
+        write!(f, "direct {} detour {}", self.direct, self.detour)
+    }
+}
+
+// Its word and its lengths, as "tie: direct 3 detour 3"; or "still".
+impl fmt::Display for Way {
+    fn fmt<W: fmt::Write>(&self, f: &mut fmt::Formatter<W>) -> fmt::Result {
+        match self {
+            Way::Still => write!(f, "still"),
+            Way::Direct(lengths) => write!(f, "direct: {lengths}"),
+            Way::Detour(lengths) => write!(f, "detour: {lengths}"),
+            Way::Tie(lengths) => write!(f, "tie: {lengths}"),
+        }
+    }
+}
+
+// Its way, the fewest moves and how many routes have them.
+impl fmt::Display for Plan {
+    fn fmt<W: fmt::Write>(&self, f: &mut fmt::Formatter<W>) -> fmt::Result {
+        let shortest = self.shortest();
+        let routes = self.routes();
+        write!(f, "{} shortest {shortest} routes {routes}", self.way)
     }
 }

@@ -2,6 +2,8 @@
 ghost use Rattle.std.specs.Prelude.{◌≡◌};
 ghost use Rattle.route.specs.Part.{part_letter};
 
+use std::fmt;
+
 // Gathering before the first crossing, a crossing by the largest disc that moves, the shift between two crossings, and spreading.
 #[derive(Clone, Copy, Debug, PartialEq, Eq)]
 pub enum Part {
@@ -22,5 +24,12 @@ impl Part {
             Part::Shift => b'T',
             Part::Spread => b'S',
         }
+    }
+}
+
+// Its letter.
+impl fmt::Display for Part {
+    fn fmt<W: fmt::Write>(&self, f: &mut fmt::Formatter<W>) -> fmt::Result {
+        write!(f, "{}", char::from(self.letter()))
     }
 }

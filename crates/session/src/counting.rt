@@ -4,6 +4,7 @@ ghost use Rattle.board.specs.Refusal.{number};
 ghost use Rattle.session.specs.Counts.{no_plays, mark_of, counted, fumble as fumble_of, full, counts_agree, excess_of};
 
 use board::Refusal;
+use std::fmt;
 
 // The plays made, and how many of them were toward, level and away.
 #[derive(Clone, Copy, Debug, PartialEq, Eq)]
@@ -121,5 +122,38 @@ impl Counts {
         ensures { result ≡ excess_of self remaining first }
     {
         self.made + remaining - first
+    }
+}
+
+// The mark's word.
+impl fmt::Display for Mark {
+    fn fmt<W: fmt::Write>(&self, f: &mut fmt::Formatter<W>) -> fmt::Result {
+        match self {
+            Mark::Toward => write!(f, "toward"),
+            Mark::Level => write!(f, "level"),
+            Mark::Away => write!(f, "away"),
+        }
+    }
+}
+
+// The four counts, each after its name.
+impl fmt::Display for Counts {
+    fn fmt<W: fmt::Write>(&self, f: &mut fmt::Formatter<W>) -> fmt::Result {
+        write!(
+            f,
+            "made {}, toward {}, level {}, away {}",
+            self.made, self.toward, self.level, self.away
+        )
+    }
+}
+
+// The counts, and then what remains and the excess.
+impl fmt::Display for Figures {
+    fn fmt<W: fmt::Write>(&self, f: &mut fmt::Formatter<W>) -> fmt::Result {
+        write!(
+            f,
+            "{}, remaining {}, excess {}",
+            self.counts, self.remaining, self.excess
+        )
     }
 }

@@ -1,91 +1,67 @@
-// The answers of Gather, Plan, Move, Place, Run, Parts and Locate.
-use crate::words::{digits, named, number, peg, refused, text};
-use board::Verdict;
-use plan::{Gathered, Lengths, Plan, Planned, Way};
-use route::{DiscMove, Located, Moving, Ran};
+// The answers of the calls, and a session record.
+use crate::words::{Digits, held};
+use board::Refusal;
+use route::{DiscMove, Located, Part};
+use session::Session;
+use std::fmt::Display;
 use std::io;
 
-pub fn gathered(rt: &impl Print, answer: Gathered) -> io::Result<()> {
+// An answer, or its refusal.
+pub fn answer<T: Display>(rt: &impl Print, answer: &Result<T, Refusal>) -> io::Result<()> {
     match answer {
-        Gathered::Length(moves) => number(rt, moves),
-        Gathered::Refused(why) => refused(rt, why),
+        Ok(value) => print!(rt; "{value}"),
+        Err(why) => print!(rt; "{why}"),
     }
 }
 
-fn lengths(rt: &impl Print, kind: &[u8], both: Lengths) -> io::Result<()> {
-    text(rt, kind)?;
-    named(rt, b" direct ", both.direct)?;
-    named(rt, b" detour ", both.detour)
-}
-
-fn way(rt: &impl Print, of: Way) -> io::Result<()> {
-    match of {
-        Way::Still => text(rt, b"still"),
-        Way::Direct(both) => lengths(rt, b"direct:", both),
-        Way::Detour(both) => lengths(rt, b"detour:", both),
-        Way::Tie(both) => lengths(rt, b"tie:", both),
-    }
-}
-
-fn whole(rt: &impl Print, p: Plan) -> io::Result<()> {
-    let its = p.way;
-    way(rt, its)?;
-    named(rt, b" shortest ", p.shortest())?;
-    named(rt, b" routes ", p.routes())
-}
-
-pub fn planned(rt: &impl Print, answer: Planned) -> io::Result<()> {
-    match answer {
-        Planned::Plan(p) => whole(rt, p),
-        Planned::Refused(why) => refused(rt, why),
-    }
-}
-
-fn disc_move(rt: &impl Print, m: DiscMove) -> io::Result<()> {
-    named(rt, b"disc ", m.disc as u64)?;
-    text(rt, b" ")?;
-    peg(rt, m.from)?;
-    peg(rt, m.to)
+// The verdict of a call that answers no more than that it is accepted.
+pub fn verdict(rt: &impl Print, verdict: Result<(), Refusal>) -> io::Result<()> {
+    answer(rt, &verdict.map(|()| "accepted"))
 }
 
 // Move's answer: the disc, its pegs and the part.
-pub fn moving(rt: &impl Print, answer: Moving) -> io::Result<()> {
-    match answer {
-        Moving::Move(m, part) => {
-            disc_move(rt, m)?;
-            text(rt, &[b' ', part.letter()])
-        }
-        Moving::Refused(why) => refused(rt, why),
+pub fn moving(rt: &impl Print, moving: Result<(DiscMove, Part), Refusal>) -> io::Result<()> {
+    match moving {
+        Ok((disc_move, part)) => print!(rt; "{disc_move} {part}"),
+        Err(why) => print!(rt; "{why}"),
     }
 }
 
 // Place's answer, and its buffer where it is accepted.
-pub fn placed(rt: &impl Print, answer: Verdict, buffer: &[u8]) -> io::Result<()> {
-    match answer {
-        Verdict::Accepted => digits(rt, buffer),
-        Verdict::Refused(why) => refused(rt, why),
-    }
+pub fn placed(rt: &impl Print, verdict: Result<(), Refusal>, buffer: &[u8]) -> io::Result<()> {
+    answer(rt, &verdict.map(|()| Digits(buffer)))
 }
 
 // The answer of Run or Parts, and its buffer.
-pub fn ran(rt: &impl Print, answer: Ran, buffer: &[u8]) -> io::Result<()> {
-    match answer {
-        Ran::Moves(count) => {
-            number(rt, count as u64)?;
-            text(rt, b" ")?;
-            text(rt, buffer)
+pub fn ran(rt: &impl Print, count: Result<usize, Refusal>, buffer: &[u8]) -> io::Result<()> {
+    match count {
+        Ok(count) => {
+            print!(rt; "{count} ")?;
+            rt.write_all(buffer)
         }
-        Ran::Refused(why) => refused(rt, why),
+        Err(why) => print!(rt; "{why}"),
     }
 }
 
-pub fn located(rt: &impl Print, answer: Located) -> io::Result<()> {
-    match answer {
-        Located::On { index, route } => {
-            named(rt, b"index ", index)?;
-            named(rt, b" route ", route)
-        }
-        Located::Off => text(rt, b"off"),
-        Located::Refused(why) => refused(rt, why),
+// Locate's answer: where the position is, or off.
+pub fn located(rt: &impl Print, located: Result<Option<Located>, Refusal>) -> io::Result<()> {
+    match located {
+        Ok(Some(place)) => print!(rt; "{place}"),
+        Ok(None) => print!(rt; "off"),
+        Err(why) => print!(rt; "{why}"),
     }
+}
+
+// A session record, field by field, each position by its n discs.
+pub fn record(rt: &impl Print, s: &Session) -> io::Result<()> {
+    print!(rt;
+        "n {}, start {}, goal {}, current {}, {}, fumbles {}, remaining {}",
+        s.n,
+        held(s.n, &s.start),
+        held(s.n, &s.goal),
+        held(s.n, &s.current),
+        s.counts,
+        s.fumbles,
+        s.remaining
+    )
 }

@@ -2,9 +2,7 @@
 #![tactic(auto)]
 
 mod answers;
-mod sessions;
 mod words;
 
-pub use answers::{gathered, located, moving, placed, planned, ran};
-pub use sessions::{held, played, record, reported, verdict};
-pub use words::{named, number, peg, text};
+pub use answers::{answer, located, moving, placed, ran, record, verdict};
+pub use words::{Digits, Peg, held};

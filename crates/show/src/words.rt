@@ -1,50 +1,39 @@
-// Text, numbers, pegs and refusals.
-use board::Refusal;
-use std::io;
+// Pegs and positions in print.
+use board::LIMIT;
+use std::fmt;
 
-pub fn text(rt: &impl Print, bytes: &[u8]) -> io::Result<()> {
-    rt.write_all(bytes)
-}
+// A peg: its letter, or the number where there is no such peg.
+#[derive(Clone, Copy, Debug, PartialEq, Eq)]
+pub struct Peg(pub u8);
 
-pub fn number(rt: &impl Print, n: u64) -> io::Result<()> {
-    rt.print(n)
-}
-
-// A number after its name.
-pub fn named(rt: &impl Print, name: &[u8], n: u64) -> io::Result<()> {
-    text(rt, name)?;
-    number(rt, n)
-}
-
-pub fn refused(rt: &impl Print, why: Refusal) -> io::Result<()> {
-    named(rt, b"refused ", why.number())
-}
-
-// A peg's letter, or the number where there is no such peg.
-pub fn peg(rt: &impl Print, p: u8) -> io::Result<()> {
-    match p {
-        0 => text(rt, b"A"),
-        1 => text(rt, b"B"),
-        2 => text(rt, b"C"),
-        _ => number(rt, p as u64),
+impl fmt::Display for Peg {
+    fn fmt<W: fmt::Write>(&self, f: &mut fmt::Formatter<W>) -> fmt::Result {
+        match self.0 {
+            0 => write!(f, "A"),
+            1 => write!(f, "B"),
+            2 => write!(f, "C"),
+            other => write!(f, "{other}"),
+        }
     }
 }
 
-// A byte of a position, or a dot for any other byte, as a buffer comes filled.
-fn digit(rt: &impl Print, byte: u8) -> io::Result<()> {
-    match byte {
-        0 => text(rt, b"0"),
-        1 => text(rt, b"1"),
-        2 => text(rt, b"2"),
-        _ => text(rt, b"."),
+// The bytes of a position as digits, with a dot for any other byte, as a buffer comes filled.
+#[derive(Clone, Copy, Debug, PartialEq, Eq)]
+pub struct Digits<'a>(pub &'a [u8]);
+
+impl fmt::Display for Digits<'_> {
+    fn fmt<W: fmt::Write>(&self, f: &mut fmt::Formatter<W>) -> fmt::Result {
+        for byte in self.0 {
+            match byte {
+                0..=2 => write!(f, "{byte}")?,
+                _ => write!(f, ".")?,
+            }
+        }
+        Ok(())
     }
 }
 
-pub fn digits(rt: &impl Print, bytes: &[u8]) -> io::Result<()> {
-    let mut i = 0;
-    while i < bytes.len() {
-        digit(rt, bytes[i])?;
-        i += 1;
-    }
-    Ok(())
+// A position of n discs as a record holds it, or the whole array where n is more than there can be.
+pub fn held(n: usize, position: &[u8; LIMIT]) -> Digits<'_> {
+    Digits(&position[..n.min(LIMIT)])
 }
