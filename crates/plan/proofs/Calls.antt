@@ -12,7 +12,7 @@ use Rattle.board.specs.Fault.{Obeys, Faultless, task_faults}
 use Rattle.board.specs.Fewest.{Fewest, fewest}
 use Rattle.board.specs.Position.{peg, WellFormed}
 use Rattle.board.specs.Reply.{refused, answer, pass}
-use Rattle.board.specs.Task.{limit, start, goal, task_check, position_check}
+use Rattle.board.specs.Task.{limit, discs, start, goal, task_check, position_check}
 use Rattle.board.proofs.Obeys.{answer_obeys, check_obeys, then_obeys}
 use Rattle.board.proofs.Replies.{answer_same, then_answered, then_refused, check_answered}
 use Rattle.board.proofs.Tasks.{SoundTask, SoundPosition, task_accepted, faultless_accepted, position_accepted, joined_task, joined_accepted, task_obeys, position_obeys}
@@ -60,6 +60,15 @@ read_ends t {s} {g} e =
     let (accepted, same) = then_answered (task_check t) (answer (start t, goal t)) (sym e) in
     let both = answer_same same in
     record { accepted = accepted; from = sym (ap (λ (e : List ℕ × List ℕ). e.0) both); to = sym (ap (λ (e : List ℕ × List ℕ). e.1) both) }
+
+-- They have as many discs.
+pub read_discs : {t s g : List ℕ} → Read t s g → length s ≡ discs t
+read_discs {t} o = rw o.from (task_accepted t o.accepted).start_length
+
+-- A task that cannot be read is refused by its check.
+pub read_faulty : (t : List ℕ) {k : ℕ} → refused k ≡ read_answer t → refused k ≡ task_check t
+unfolding read_answer
+read_faulty t e = sym (then_refused (task_check t) _ (sym e))
 
 -- Its plan is that of its ends.
 pub read_planned : (t : List ℕ) {s g : List ℕ} → answer (s, g) ≡ read_answer t → answer (plan_of s g) ≡ plan_answer t

@@ -1,6 +1,7 @@
 -- What Move, Place, Run and Locate answer, and when: the laws for whoever calls them.
 pub mod Opened
 pub mod Lists
+pub mod Routes
 pub mod Obeys
 pub mod Locating
 pub mod ByPlans

@@ -10,6 +10,7 @@ use Rattle.board.specs.Position.{WellFormed}
 use Rattle.board.specs.Fewest.{same}
 use Rattle.plan.specs.Plan.{plan_of, shortest, routes, routes_way}
 use Rattle.plan.specs.Inner.Sound.{Ends}
+use Rattle.plan.specs.declared.answer.Plan.{Plan}
 use Rattle.plan.specs.declared.answer.Way.{Way}
 use Rattle.plan.specs.declared.answer.Way.TheVariants.{Still, Direct, Detour, Tie}
 use Rattle.plan.proofs.Sound.{ends_fewest, ends_fit}
@@ -32,7 +33,7 @@ abbrev pub located_by : List ℕ → List ℕ → List ℕ → ℕ → ℕ → �
 located_by s g q there back whole =
     cond (eqb (there + back) whole) (on there (cond (same q (after s (take there (route_of s g 0)))) 0 1)) off
 
-module _ (s g q : List ℕ) (e : Ends s g) (size : length q ≡ length s) (formed : WellFormed q) where
+module _ {s g : List ℕ} (q : List ℕ) (e : Ends s g) (size : length q ≡ length s) (formed : WellFormed q) where
   -- A position of the task's size can be a goal for its start.
   ends_there : Ends s q
   ends_there = record { same = sym size; within = e.within; start_formed = e.start_formed; goal_formed = formed }
@@ -41,11 +42,12 @@ module _ (s g q : List ℕ) (e : Ends s g) (size : length q ≡ length s) (forme
   ends_back : Ends q g
   ends_back = record { same = size ∙ e.same; within = rw size e.within; start_formed = formed; goal_formed = e.goal_formed }
 
-  -- The moves by way of it can be added.
-  pub by_way_fits : shortest (plan_of s q) + shortest (plan_of q g) < 2 ^ 64
-  by_way_fits = omega (arith, ends_fit ends_there, ends_fit ends_back)
+  module _ (to on : Plan) (there : to ≡ plan_of s q) (back : on ≡ plan_of q g) where
+    -- The moves by way of it can be added.
+    pub by_way_fits : shortest to + shortest on < 2 ^ 64
+    by_way_fits = rw (there, back) (omega (arith, ends_fit ends_there, ends_fit ends_back))
 
-  -- Three plans locate it.
-  pub located_plans : located_at s g q ≡ located_by s g q (shortest (plan_of s q)) (shortest (plan_of q g)) (shortest (plan_of s g))
-  unfolding located_at on_route lowest_route
-  located_plans = rw (ends_fewest ends_there, ends_fewest ends_back, ends_fewest e)
+    -- Three plans locate it.
+    pub located_plans : {whole : Plan} → whole ≡ plan_of s g → located_at s g q ≡ located_by s g q (shortest to) (shortest on) (shortest whole)
+    unfolding located_at on_route lowest_route
+    located_plans p = rw (there, back, p, ends_fewest ends_there, ends_fewest ends_back, ends_fewest e)

@@ -12,15 +12,12 @@ use Rattle.board.specs.Fault.{fault, Obeys}
 use Rattle.board.specs.Reply.{refused, answer, ◌>>◌, pass, check}
 use Rattle.board.specs.Task.{start, goal}
 use Rattle.board.proofs.Obeys.{answer_obeys, check_obeys, then_obeys}
-use Rattle.board.proofs.Replies.{then_answered, then_refused, then_assoc, check_answered, check_passed}
-use Rattle.plan.specs.Inner.Sound.{Ends}
-use Rattle.plan.specs.Plan.{plan_of, routes, shortest}
-use Rattle.plan.specs.declared.answer.Plan.{Plan}
-use Rattle.plan.proofs.Sound.{task_ends}
+use Rattle.board.proofs.Replies.{answer_same, then_answered, then_refused, then_assoc, check_answered, check_passed}
+use Rattle.plan.specs.Plan.{plan_of}
 use Rattle.route.specs.Answer.{length_of, route_check}
 use Rattle.route.specs.Faults.{route_faults}
-use Rattle.route.specs.Inner.Open.{list_check, list_answer}
-use Rattle.route.proofs.Calls.Opened.{Routed, route_passed, route_passes, route_obeys}
+use Rattle.route.specs.Inner.Open.{Opening, opening, open_answer, list_check, list_answer}
+use Rattle.route.proofs.Calls.Opened.{Routed, opening_parts, route_passed, route_passes, open_refused, route_obeys}
 
 -- A test passes exactly where one number is below another.
 pub below : (a b : ℕ) → (ltb a b ≡ true) ↔ (a < b)
@@ -82,29 +79,44 @@ module _ (t : List ℕ) (r i room size : ℕ) where
         | no none ↦ rw (ready, le-ltb (length_of t) i l.index, le-ltb i (length_of t) (omega arith))
       ]
 
-  -- A plan that is opened after them is the task's, and has the route and the index.
-  pub record OpenedList (p : Plan) : Type 0 where
+  -- What is opened after them: the checks pass, and these are the task's ends, its plan and the route.
+  pub record OpenedList (o : Opening) : Type 0 where
     pub listed : Listed
-    pub ends : Ends (start t) (goal t)
-    pub plan : plan_of (start t) (goal t) ≡ p
-    pub known : r < routes p
-    pub within : i ≤ shortest p
+    pub passed : list_check t r i room size ≡ pass
+    pub from : o.start ≡ start t
+    pub to : o.goal ≡ goal t
+    pub plan : o.plan ≡ plan_of (start t) (goal t)
+    pub route : o.route ≡ r
 
-  pub list_opened : {p : Plan} → list_answer t r i room size ≡ answer p → OpenedList p
+  pub list_opened : {o : Opening} → answer o ≡ list_answer t r i room size → OpenedList o
   unfolding list_answer
-  list_opened {p} e =
-      let (passed, same) = then_answered (list_check t r i room size) _ e in
+  list_opened e =
+      let (passed, same) = then_answered (list_check t r i room size) _ (sym e) in
       let l = list_passed passed in
-      let plan : plan_of (start t) (goal t) ≡ p = cc in
-      record {
-        listed = l;
-        ends = task_ends l.routed.sound;
-        plan = plan;
-        known = rw plan at l.routed.known;
-        within = rw plan at l.index;
-      }
+      let o = opening_parts t r (route_passes t r l.routed.accepted l.routed.known) (sym (answer_same same)) in
+      record { listed = l; passed = passed; from = o.from; to = o.to; plan = o.plan; route = o.route }
 
   -- A refusal to open it is theirs.
-  pub list_refused : {k : ℕ} → list_answer t r i room size ≡ refused k → list_check t r i room size ≡ refused k
+  pub list_refused : {k : ℕ} → refused k ≡ list_answer t r i room size → refused k ≡ list_check t r i room size
   unfolding list_answer
-  list_refused e = then_refused (list_check t r i room size) _ e
+  list_refused e = sym (then_refused (list_check t r i room size) _ (sym e))
+
+  -- What cannot be opened is not opened for a list.
+  pub open_unlisted : {k : ℕ} → refused k ≡ open_answer t r → refused k ≡ list_answer t r i room size
+  unfolding list_answer list_check
+  open_unlisted e = rw (← open_refused t r e)
+
+  -- An index above the length is refused with 5.
+  pub index_unlisted : route_check t r ≡ pass → length_of t < i → refused 5 ≡ list_answer t r i room size
+  unfolding list_answer list_check
+  index_unlisted passed h = rw (passed, lt-ltb (length_of t) i h)
+
+  -- Moves without room for one are refused with 6.
+  pub room_unlisted : route_check t r ≡ pass → i < length_of t → room < size → refused 6 ≡ list_answer t r i room size
+  unfolding list_answer list_check
+  room_unlisted passed some less = rw (passed, le-ltb (length_of t) i (omega arith), lt-ltb i (length_of t) some, lt-ltb room size less)
+
+  -- Where all is there it is answered.
+  pub listed_answer : Listed → answer (opening t r) ≡ list_answer t r i room size
+  unfolding list_answer
+  listed_answer l = rw (list_passes l)

@@ -1,46 +1,32 @@
--- `route::moves::move_at` meets its contract: the plan is opened for the route, and the index is checked on it. Assumes nothing.
-use mathlib.Core.Path.{◌∙◌, refl, sym, ap}
-use native.Mathlib.Omega.{arith}
+-- What is opened for the route has the index checked on it.
+use mathlib.Core.Path.{refl, ap}
 use borrow.Author.Tests.{lt-ltb, le-ltb}
-use lib.ListN.{length-take}
-use Rattle.board.specs.Refusal.{reply_of}
-use Rattle.plan.proofs.Parts.{part_to_end}
-use Rattle.plan.proofs.Sound.{task_ends}
+use Rattle.std.proofs.lemmas.Result.{err_from_is_err_and}
+use Rattle.board.specs.Reply.{answer}
 use Rattle.route.specs.Answer.{move_answer, part_answer}
-use Rattle.route.proofs.Calls.Opened.{OpenedRoute, open_answered, open_refused}
+use Rattle.route.specs.Part.{part_letter}
+use Rattle.route.proofs.Calls.Opened.{opened_length, open_answered, open_refused}
 use Rattle.route.proofs.moves.move_at.Goals as goal
+
+-- The task or the route number is refused.
+pub returns-in_err-opened : goal.returns-in_err-opened
+unfolding move_answer part_answer
+returns-in_err-opened c =
+    let p = err_from_is_err_and c.from_residual.result c.from_residual.ensures.1 in
+    rw (p.1, p.2, ← open_refused _ _ c.in_err-opened.ensures) (record { result_value = refl; part_value = refl })
 
 -- There is no such index.
 pub returns-then-shortest-index : goal.returns-then-shortest-index
 unfolding move_answer part_answer
 returns-then-shortest-index c =
-    let opened : OpenedRoute c.args.task.now c.args.route c.in-Plan.p =
-    open_answered _ _ (sym c.open_route.ensures ∙ ap reply_of c.in-Plan.is) in
-    let o = opened in
-    rw (o.passed, o.plan, ← c.shortest.ensures, le-ltb _ _ c.if-shortest-index.true) (record { result_value = refl; part_value = refl })
-
-pub slice_bounds-route_move-end : goal.slice_bounds-route_move-end
-slice_bounds-route_move-end c =
-    simp length-take (omega arith)
-
-pub route_move-requires : goal.route_move-requires
-route_move-requires c =
-    let opened : OpenedRoute c.args.task.now c.args.route c.in-Plan.p =
-    open_answered _ _ (sym c.open_route.ensures ∙ ap reply_of c.in-Plan.is) in
-    let o = opened in
-    rw part_to_end (record { ends = task_ends o.sound; p_value = sym o.plan; route_bound = (o.known, omega arith) })
-
--- The task or the route number is refused.
-pub returns-in-Refused : goal.returns-in-Refused
-unfolding move_answer part_answer
-returns-in-Refused c =
-    rw (open_refused _ _ (sym c.open_route.ensures ∙ ap reply_of c.in-Refused.is)) (record { result_value = refl; part_value = refl })
+    let o = open_answered _ _ c.in_ok-opened.ensures in
+    rw (o.passed, opened_length o, ← c.shortest.ensures, le-ltb _ _ c.if-shortest-index.true) (record { result_value = refl; part_value = refl })
 
 -- The move and its part are answered.
-pub returns-else-shortest-index : goal.returns-else-shortest-index
+pub returns : goal.returns
 unfolding move_answer part_answer
-returns-else-shortest-index c =
-    let opened : OpenedRoute c.args.task.now c.args.route c.in-Plan.p =
-    open_answered _ _ (sym c.open_route.ensures ∙ ap reply_of c.in-Plan.is) in
-    let o = opened in
-    rw (o.passed, o.plan, ← c.shortest.ensures, lt-ltb _ _ c.if-shortest-index.false) (rw part_to_end at c.route_move.ensures)
+returns c =
+    let o = open_answered _ _ c.in_ok-opened.ensures in
+    let of_task = rw (o.from, o.to, o.route) at c.route_move.ensures in
+    rw (o.passed, opened_length o, ← c.shortest.ensures, lt-ltb _ _ c.if-shortest-index.false)
+    (record { result_value = ap answer of_task.result_value; part_value = ap (λ a. answer (part_letter a)) of_task.part_value })

@@ -1,33 +1,28 @@
--- `route::opening::open_route` meets its contract: Plan's answer gives the task faults and the plan, on which the route number is checked.
--- Assumes nothing.
-use mathlib.Core.Path.{◌∙◌, sym, ap}
+-- The task is read, and the route number is checked on its plan.
 use borrow.Author.Tests.{lt-ltb, le-ltb}
-use Rattle.board.specs.Refusal.{reply_of}
-use Rattle.plan.proofs.Calls.{PlanAnswered, plan_answered, plan_refused}
+use Rattle.std.proofs.lemmas.Result.{err_from_is_err_and}
+use Rattle.plan.proofs.Calls.{read_ends}
 use Rattle.route.specs.Answer.{route_check}
 use Rattle.route.specs.Inner.Open.{open_answer}
+use Rattle.route.proofs.Calls.Opened.{read_unopened}
 use Rattle.route.proofs.opening.open_route.Goals as goal
+
+-- The task is refused.
+pub returns-in_err-task : goal.returns-in_err-task
+returns-in_err-task c =
+    let p = err_from_is_err_and c.from_residual.result c.from_residual.ensures.1 in
+    rw (p.1, p.2) (read_unopened _ _ c.in_err-task.ensures)
 
 -- There is no such route.
 pub returns-then-routes-route : goal.returns-then-routes-route
 unfolding open_answer route_check
 returns-then-routes-route c =
-    let opened : PlanAnswered c.args.task.now c.in-Plan.p =
-    plan_answered _ (sym c.plan.ensures ∙ ap reply_of c.in-Plan.is) in
-    let o = opened in
-    rw (o.accepted, o.plan, ← c.routes.ensures, le-ltb _ _ c.if-routes-route.true)
-
--- The task is refused.
-pub returns-in-Refused : goal.returns-in-Refused
-unfolding open_answer route_check
-returns-in-Refused c =
-    rw (plan_refused _ (sym c.plan.ensures ∙ ap reply_of c.in-Refused.is))
+    let o = read_ends _ c.in_ok-task.ensures in
+    rw (o.accepted, ← o.from, ← o.to, ← c.plan-plan.ensures, ← c.routes.ensures, le-ltb _ _ c.if-routes-route.true)
 
 -- There is such a route.
-pub returns-else-routes-route : goal.returns-else-routes-route
+pub returns : goal.returns
 unfolding open_answer route_check
-returns-else-routes-route c =
-    let opened : PlanAnswered c.args.task.now c.in-Plan.p =
-    plan_answered _ (sym c.plan.ensures ∙ ap reply_of c.in-Plan.is) in
-    let o = opened in
-    rw (o.accepted, o.plan, ← c.routes.ensures, lt-ltb _ _ c.if-routes-route.false)
+returns c =
+    let o = read_ends _ c.in_ok-task.ensures in
+    rw (o.accepted, ← o.from, ← o.to, ← c.plan-plan.ensures, ← c.routes.ensures, lt-ltb _ _ c.if-routes-route.false)

@@ -18,7 +18,7 @@ returns-then-left-eq0 c =
 
 pub move_along-requires : goal.move_along-requires
 move_along-requires c =
-    start_gatherable c.requires.ends c.requires.course_fits.disc_there (rw c.first_peg.ensures (first_peg_fits c.requires.course_fits))
+    start_gatherable c.args.task.now.ends c.requires.course_fits.disc_there (rw c.first_peg.ensures (first_peg_fits c.requires.course_fits))
 
 -- The smaller discs are shifted: the last crossing.
 pub returns-then-left-eq0-2 : goal.returns-then-left-eq0-2
@@ -37,7 +37,7 @@ overflow_add-done c =
 
 pub move_along-back-requires : goal.move_along-back-requires
 move_along-back-requires c =
-    goal_gatherable c.requires.ends c.requires.course_fits.disc_there (rw c.last_peg.ensures (last_peg_fits c.requires.course_fits))
+    goal_gatherable c.args.task.now.ends c.requires.course_fits.disc_there (rw c.last_peg.ensures (last_peg_fits c.requires.course_fits))
 
 -- The smaller discs are being gathered.
 pub returns-else-left-eq0 : goal.returns-else-left-eq0
@@ -50,7 +50,7 @@ pub returns-else-left-eq0-2 : goal.returns-else-left-eq0-2
 unfolding stage_move
 returns-else-left-eq0-2 c =
     rw (c.in-Shifting.is, ne_eqb _ _ c.if-left-eq0-2.false)
-    (c.move_along-in-Shifting.ensures ∙ tower_first _ _ _ _ (omega (arith, c.requires.course_fits.disc_there, c.requires.ends.within)))
+    (c.move_along-in-Shifting.ensures ∙ tower_first _ _ _ _ (omega (arith, c.requires.course_fits.disc_there, c.args.task.now.ends.within)))
 
 -- They are being spread.
 pub returns-in-Spreading : goal.returns-in-Spreading

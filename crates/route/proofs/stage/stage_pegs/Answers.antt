@@ -45,16 +45,16 @@ joined_tower p b x f {k = k} {j} {r} d h hk hb e =
 
 pub pegs_along-pegs-requires : goal.pegs_along-pegs-requires
 pegs_along-pegs-requires c =
-    start_gatherable c.requires.ends c.requires.course_fits.disc_there (rw c.first_peg.ensures (first_peg_fits c.requires.course_fits))
+    start_gatherable c.args.task.now.ends c.requires.disc_there (rw c.first_peg.ensures (first_peg_fits c.requires))
 
 pub pegs_along-requires : goal.pegs_along-requires
 pegs_along-requires c =
-    let fits = c.requires.course_fits in
+    let fits = c.requires in
     tower_gatherable _ _ _ fits.to_peg (omega arith) fits.from_peg
 
 pub pegs_along-pegs-requires-in-Spreading : goal.pegs_along-pegs-requires-in-Spreading
 pegs_along-pegs-requires-in-Spreading c =
-    goal_gatherable c.requires.ends c.requires.course_fits.disc_there (rw c.last_peg.ensures (last_peg_fits c.requires.course_fits))
+    goal_gatherable c.args.task.now.ends c.requires.disc_there (rw c.last_peg.ensures (last_peg_fits c.requires))
 
 -- The smaller discs are being gathered.
 pub returns-in-Gathering : goal.returns-in-Gathering
@@ -68,9 +68,9 @@ pub returns-in-Shifting : goal.returns-in-Shifting
 unfolding stage_peg
 returns-in-Shifting c d l =
     rw c.in-Shifting.is
-    (joined_tower c.args.start.now c.with_larger-pegs.result c.args.course.to c.args.course.free d
+    (joined_tower c.args.task.now.start.now c.with_larger-pegs.result c.args.course.to c.args.course.free d
     c.pegs_along.ensures
-    (omega (arith, c.requires.course_fits.disc_there, c.requires.ends.within))
+    (omega (arith, c.requires.disc_there, c.args.task.now.ends.within))
     (omega arith)
     (c.with_larger-pegs.ensures d l))
 

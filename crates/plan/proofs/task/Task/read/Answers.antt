@@ -1,5 +1,5 @@
 -- The halves of an accepted task are its ends.
-use Rattle.std.proofs.Common.{◌≡◌, sym, rules}
+use Rattle.std.proofs.Common.{sym}
 use Rattle.std.proofs.lemmas.Result.{err_from_is_err_and}
 use Rattle.board.proofs.Tasks.{task_accepted}
 use Rattle.plan.specs.Inner.Read.{read_answer}

@@ -11,17 +11,17 @@ use Rattle.route.proofs.course.Course.of.Goals as goal
 
 pub third-requires : goal.third-requires
 third-requires c =
-    let fits = plan_fits _ _ c.requires.ends.start_formed c.requires.ends.goal_formed c.requires.ends.within in
+    let fits = plan_fits _ _ c.args.task.now.ends.start_formed c.args.task.now.ends.goal_formed c.args.task.now.ends.within in
     rw c.requires.plan_value (fits.from_fits, fits.to_fits)
 
 pub gather_discs-requires : goal.gather_discs-requires
 gather_discs-requires c =
-    let fits = plan_fits _ _ c.requires.ends.start_formed c.requires.ends.goal_formed c.requires.ends.within in
+    let fits = plan_fits _ _ c.args.task.now.ends.start_formed c.args.task.now.ends.goal_formed c.args.task.now.ends.within in
     let pegs : (c.args.plan.from < 3) × (c.args.plan.to < 3) = rw c.requires.plan_value (fits.from_fits, fits.to_fits) in
     let free_small : c.third.result < 3 = rw c.third.ensures (third_peg _ _ pegs.0) in
-    let within : c.args.plan.largest ≤ length c.args.start.now =
+    let within : c.args.plan.largest ≤ length c.args.task.now.start.now =
     rw c.requires.plan_value (plan_largest _ _) in
-    start_gatherable c.requires.ends (omega (arith, within))
+    start_gatherable c.args.task.now.ends (omega (arith, within))
     (rw c.first_peg.ensures (either_peg c.is_detour.result pegs.1 (free_small)))
 
 -- The pegs of the plan are those of the course's disc.
