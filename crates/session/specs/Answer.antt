@@ -4,7 +4,7 @@ use Rattle.board.specs.Fewest.{fewest}
 use Rattle.board.specs.Held.{padded}
 use Rattle.board.specs.Legal.{legal_check}
 use Rattle.board.specs.Move.{Move, top, moved}
-use Rattle.board.specs.Refusal.{number, reply_of}
+use Rattle.board.specs.Refusal.{reply_of}
 use Rattle.board.specs.Reply.{Reply, refused, answer, ◌>>◌, Check, check}
 use Rattle.board.specs.Task.{limit, discs, start, goal, task_check}
 use Rattle.session.specs.Counts.{no_plays, mark_of, counted, fumble, full, figures_of}

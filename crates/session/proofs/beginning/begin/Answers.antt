@@ -5,13 +5,13 @@ use Rattle.session.specs.Answer.{begin_answer}
 use Rattle.session.proofs.beginning.begin.Goals as goal
 
 -- The task is refused.
-pub returns-in-Refused : goal.returns-in-Refused
+pub returns-in-Err : goal.returns-in-Err
 unfolding begin_answer
-returns-in-Refused c =
-    rw (← c.task_verdict.ensures, c.in-Refused.is) (record { result_value = refl; session_value = c.no_session.ensures })
+returns-in-Err c =
+    rw (← c.in-Err.ensures) (record { result_value = refl; session_value = c.no_session.ensures })
 
 -- It is accepted.
-pub returns-in-Accepted : goal.returns-in-Accepted
+pub returns-in-Ok : goal.returns-in-Ok
 unfolding begin_answer
-returns-in-Accepted c =
-    rw (← c.task_verdict.ensures, c.in-Accepted.is) (record { result_value = ap answer c.opened.ensures; session_value = c.opened.ensures })
+returns-in-Ok c =
+    rw (← c.in-Ok.ensures) (record { result_value = ap answer c.opened.ensures; session_value = c.opened.ensures })

@@ -6,5 +6,5 @@ use Rattle.session.proofs.sound.fewest_of.Goals as goal
 
 pub returns : goal.returns
 returns c =
-    let e = c.shortest.ensures ∙ ap shortest c.plan_between.ensures in
+    let e = c.shortest.ensures ∙ ap shortest c.plan.ensures in
     record { value = e ∙ sym (ends_fewest c.requires); upper_bound = rw e (ends_fit c.requires) }
