@@ -9,11 +9,11 @@ use Rattle.board.specs.Reply.{refused, answer}
 use Rattle.board.specs.Task.{start, goal}
 use Rattle.board.proofs.Replies.{then_answered}
 use Rattle.route.specs.Answer.{length_of}
-use Rattle.route.specs.Inner.Open.{list_check}
+use Rattle.route.specs.Inner.Open.{list_check, list_answer}
 use Rattle.route.specs.Part.{part_letter, parts_of}
 use Rattle.route.proofs.Annotated.{parts_long}
 use Rattle.route.proofs.Calls.Answers.{joined_size}
-use Rattle.route.proofs.Calls.Lists.{Listed, list_first, list_answer_obeys, list_passed, list_passes}
+use Rattle.route.proofs.Calls.Lists.{Listed, list_first, list_answer_obeys, list_passed, list_passes, list_refused}
 use Rattle.route.proofs.Calls.Opened.{Routed}
 use Rattle.parts.specs.Answer.{parts_answer, parts_writes}
 use Rattle.parts.specs.Faults.{parts_faults}
@@ -27,10 +27,11 @@ pub parts_kept : (t : List ℕ) (r i : ℕ) (out : List ℕ) {k : ℕ} → parts
 unfolding parts_writes
 parts_kept t r i out e = rw e
 
--- Where the checks of the list calls refuse, Parts does.
-pub parts_refuses : (t : List ℕ) (r i : ℕ) (out : List ℕ) {k : ℕ} → list_check t r i (length out) 1 ≡ refused k → parts_answer t r i out ≡ refused k
+-- What cannot be opened for the list is refused.
+pub parts_refuses : (t : List ℕ) (r i : ℕ) (out : List ℕ) {k : ℕ} → refused k ≡ list_answer t r i (length out) 1 → parts_answer t r i out ≡ refused k
 unfolding parts_answer
-parts_refuses t r i out e = list_first t r i (length out) 1 _ ∙ rw e
+parts_refuses t r i out e =
+    list_first t r i (length out) 1 _ ∙ rw (← list_refused t r i (length out) 1 e)
 
 -- At every first index up to the length, into a buffer of a byte or more where moves remain, it answers how many remain or fit.
 pub parts_accepts : (t : List ℕ) (r i : ℕ) (out : List ℕ) → Listed t r i (length out) 1 → parts_answer t r i out ≡ answer (min (length_of t - i) (length out))

@@ -5,11 +5,11 @@ use mathlib.Core.Path.{◌≡◌, ◌∙◌, sym, ap}
 use native.Mathlib.Omega.{arith}
 use lib.ListN.{length, take, drop, replicate, length-append, length-map, length-replicate}
 use Rattle.board.proofs.Lists.{map_take, map_drop, map_replicate}
-use Rattle.plan.specs.Inner.Sound.{Ends}
-use Rattle.plan.specs.Plan.{plan_of, routes, shortest}
+use Rattle.plan.specs.Plan.{shortest}
 use Rattle.route.specs.Inner.Stage.{course_of, shift_of, second_of, course_parts}
 use Rattle.route.specs.Part.{part_letter, parts_of}
 use Rattle.route.specs.declared.course.Course.{Course}
+use Rattle.route.specs.declared.opened.Opened.{Opened}
 use Rattle.route.specs.declared.part.Part.TheVariants.{Gather, Cross, Shift, Spread}
 use Rattle.route.proofs.Shortest.Routes.{route_walk}
 use Rattle.route.proofs.Stretches.Joined.{parts_length}
@@ -75,14 +75,22 @@ course_written c moves first out₀ {p = p} long shift second spread h =
       rw (map_take part_letter p.at (drop first parts), map_drop part_letter first parts) (penned_all written),
     )
 
--- The parts of a route are those of its course, and the spreading is what is left of the length.
-pub route_strokes : (s t : List ℕ) → Ends s t → 0 < (plan_of s t).largest → (r : ℕ) → r < routes (plan_of s t) →
-    let c = course_of s t r in
-    (spreads_from c ≤ shortest (plan_of s t)) × (parts_of s t r ≡ course_parts c (shortest (plan_of s t) - spreads_from c))
-route_strokes s t e moves r known =
-    let c = course_of s t r in
-    let parts = route_parts s t e moves r in
-    let long = parts_length s t r ∙ (route_walk s t e.same e.start_formed e.goal_formed r known).long in
-    let size : spreads_from c + spread_of s t r ≡ shortest (plan_of s t) = sym (course_length c (spread_of s t r)) ∙ sym (ap length parts) ∙ long in
-    let rest : shortest (plan_of s t) - spreads_from c ≡ spread_of s t r = omega arith in
-    (omega arith, rw rest parts)
+module _ (o : Opened) (moves : 0 < o.plan.largest) {c : Course} (is : c ≡ course_of o.task.start.now o.task.goal.now o.route) where
+  -- The moves of the course before its spreading, and those of the spreading, are all of the route of an opened task.
+  opened_moves : spreads_from c + spread_of o.task.start.now o.task.goal.now o.route ≡ shortest o.plan
+  opened_moves =
+      let s = o.task.start.now in
+      let t = o.task.goal.now in
+      let e = o.task.ends in
+      let parts = route_parts s t e (rw o.planned at moves) o.route in
+      let long = parts_length s t o.route ∙ (route_walk s t e.same e.start_formed e.goal_formed o.route (rw o.planned at o.known)).long in
+      rw (is, o.planned) (sym (course_length (course_of s t o.route) (spread_of s t o.route)) ∙ sym (ap length parts) ∙ long)
+
+  pub opened_bound : spreads_from c ≤ shortest o.plan
+  opened_bound = omega (arith, opened_moves)
+
+  -- Its parts are those of the course.
+  pub opened_parts : parts_of o.task.start.now o.task.goal.now o.route ≡ course_parts c (shortest o.plan - spreads_from c)
+  opened_parts =
+      let rest : shortest o.plan - spreads_from c ≡ spread_of o.task.start.now o.task.goal.now o.route = omega (arith, opened_moves) in
+      rw (rest, is) (route_parts o.task.start.now o.task.goal.now o.task.ends (rw o.planned at moves) o.route)

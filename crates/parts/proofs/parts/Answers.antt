@@ -1,36 +1,25 @@
--- `parts::parts` meets its contract: the plan is opened for the list, and the bytes written are the letters of the parts. Assumes nothing.
-use mathlib.Core.Path.{◌∙◌, refl, sym, ap}
-use native.Mathlib.Omega.{arith}
-use lib.ListN.{length, length-take}
-use Rattle.board.specs.Refusal.{reply_of}
-use Rattle.plan.proofs.Parts.{part_to_end}
-use Rattle.route.proofs.Calls.Lists.{OpenedList, list_opened, list_refused}
+-- The plan is opened for the list, and the bytes written are the letters of the parts.
+use mathlib.Core.Path.{refl, sym}
+use Rattle.std.proofs.lemmas.Result.{err_from_is_err_and}
+use Rattle.route.proofs.Calls.Lists.{list_opened}
 use Rattle.parts.proofs.Calls.{parts_kept, parts_refuses, parts_accepts, parts_answered}
 use Rattle.parts.proofs.parts.Goals as goal
 
-pub slice_bounds-parts_from-end : goal.slice_bounds-parts_from-end
-slice_bounds-parts_from-end c =
-    simp length-take (omega arith)
+-- A check refuses.
+pub returns-in_err-opened : goal.returns-in_err-opened
+returns-in_err-opened c =
+    let p = err_from_is_err_and c.from_residual.result c.from_residual.ensures.1 in
+    let refused = parts_refuses _ _ _ _ c.in_err-opened.ensures in
+    rw (p.1, p.2) (record { result_value = sym refused; out_after = sym (parts_kept _ _ _ _ refused) })
 
 pub parts_from-requires : goal.parts_from-requires
 parts_from-requires c =
-    let opened : OpenedList c.args.task.now c.args.route c.args.first (length c.args.out.now) 1 c.in-Plan.p =
-    list_opened _ _ _ _ _ (sym c.open_list.ensures ∙ ap reply_of c.in-Plan.is) in
-    let o = opened in rw part_to_end (record { ends = o.ends; p_value = sym o.plan; route_bound = (o.known, o.within) })
-
--- A check refuses.
-pub returns-in-Refused : goal.returns-in-Refused
-returns-in-Refused c =
-    let refuses = parts_refuses c.args.task.now c.args.route c.args.first c.args.out.now
-    (list_refused _ _ _ _ _ (sym c.open_list.ensures ∙ ap reply_of c.in-Refused.is)) in
-    record { result_value = sym refuses; out_after = sym (parts_kept _ _ _ _ refuses) }
+    let o = list_opened _ _ _ _ _ c.in_ok-opened.ensures in rw o.plan o.listed.index
 
 -- The letters are written.
-pub returns-in-Plan : goal.returns-in-Plan
-returns-in-Plan c =
-    let opened : OpenedList c.args.task.now c.args.route c.args.first (length c.args.out.now) 1 c.in-Plan.p =
-    list_opened _ _ _ _ _ (sym c.open_list.ensures ∙ ap reply_of c.in-Plan.is) in
-    let o = opened in
+pub returns : goal.returns
+returns c =
+    let o = list_opened _ _ _ _ _ c.in_ok-opened.ensures in
     let answered = parts_accepts _ _ _ _ o.listed in
-    let wrote = (parts_answered c.args.task.now c.args.route c.args.first c.args.out.now answered).wrote in
-    rw (answered, wrote, o.plan, ← c.parts_from.ensures.value) (record { result_value = refl; out_after = rw part_to_end at c.parts_from.ensures.out_after })
+    let wrote = (parts_answered _ _ _ _ answered).wrote in
+    rw (answered, wrote, ← o.plan, ← c.parts_from.ensures.value) (record { result_value = refl; out_after = rw (o.from, o.to, o.route) at c.parts_from.ensures.out_after })
