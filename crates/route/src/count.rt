@@ -5,9 +5,5 @@ ghost use Rattle.std.specs.Prelude.{◌≡◌, min};
 pub fn lesser(remain: u64, fit: usize) -> usize
     ensures { result ≡ min remain fit }
 {
-    if remain < fit as u64 {
-        remain as usize
-    } else {
-        fit
-    }
+    remain.min(fit as u64) as usize
 }

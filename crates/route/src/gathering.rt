@@ -2,34 +2,39 @@
 ghost use Rattle.std.specs.Prelude.{◌≡◌, ◌+◌, ◌<◌, length};
 ghost use Rattle.board.specs.Position.{peg as disc_peg};
 ghost use Rattle.plan.specs.Inner.Sound.{Gatherable};
-ghost use Rattle.route.specs.Inner.Along.{stacked, Along, Passes};
+ghost use Rattle.route.specs.Inner.Along.{stacked, IsPeg, Along, Passes};
 ghost use Rattle.route.specs.Route.{gathering as gathering_of, move_at};
 
 use crate::answer::DiscMove;
 use board::LIMIT;
 
 // Where a disc is, and what is left of the gathering for the smaller ones: their target, the moves left, and the peg on which they
-// are a tower, or 3 where they start as in the position.
+// are a tower, if they are one and not as in the position.
 #[derive(Clone, Copy)]
 pub struct Passed {
     pub peg: u8,
     pub goal: u8,
     pub rest: u64,
-    pub tower: u8,
+    pub tower: Option<u8>,
 }
 
 // The peg of disc k + 1, of the tower or of the position.
-fn peg_of(position: &[u8], k: usize, tower: u8) -> u8
+#[tactic(auto, unfolding(crate::specs::Inner::Along::stacked))]
+fn peg_of(position: &[u8], k: usize, tower: Option<u8>) -> u8
     requires { k < length position.now }
     ensures { result ≡ stacked position.now tower k }
 {
-    if tower < 3 { tower } else { position[k] }
+    match tower {
+        Some(peg) => peg,
+        None => position[k],
+    }
 }
 
 // Disc k + 1 when some moves of a gathering are left. On its target it stays; else it waits while 2^k moves or more are left, and
 // after that is on its target, with the smaller ones to follow it as a tower from the third peg.
-fn pass(position: &[u8], k: usize, goal: u8, rest: u64, tower: u8) -> Passed
-    requires { Gatherable position.now (k + 1) goal }
+fn pass(position: &[u8], k: usize, goal: u8, rest: u64, tower: Option<u8>) -> Passed
+    requires gatherable { Gatherable position.now (k + 1) goal }
+    requires tower_peg { IsPeg tower }
     ensures { Passes position.now k goal rest tower result }
 {
     let at = peg_of(position, k, tower);
@@ -55,7 +60,7 @@ fn pass(position: &[u8], k: usize, goal: u8, rest: u64, tower: u8) -> Passed
         peg: goal,
         goal,
         rest,
-        tower: next,
+        tower: Some(next),
     }
 }
 
@@ -67,10 +72,8 @@ pub fn pegs_along(position: &[u8], k: usize, target: u8, left: u64) -> [u8; LIMI
     let mut pegs: [u8; LIMIT] = [0; LIMIT];
     let mut goal = target;
     let mut rest = left;
-    let mut tower: u8 = 3;
-    let mut m = k;
-    while 0 < m {
-        m -= 1;
+    let mut tower = None;
+    for m in (0..k).rev() {
         let passed = pass(position, m, goal, rest, tower);
         pegs[m] = passed.peg;
         goal = passed.goal;
@@ -92,9 +95,7 @@ pub fn first_move(position: &[u8], k: usize, target: u8) -> DiscMove
         to: 0,
     };
     let mut goal = target;
-    let mut m = k;
-    while 0 < m {
-        m -= 1;
+    for m in (0..k).rev() {
         let at = position[m];
         let next = board::third(goal, at);
         if at != goal {

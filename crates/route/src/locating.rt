@@ -36,14 +36,10 @@ fn locate_on(task: &Task, position: &[u8]) -> Option<Located>
         route: 0,
     };
     let pegs = route_pegs(&first, there);
-    let route = if board::same_position(position, &pegs[..position.len()]) {
-        0
-    } else {
-        1
-    };
+    let on_first = board::same_position(position, &pegs[..position.len()]);
     Some(Located {
         index: there,
-        route,
+        route: if on_first { 0 } else { 1 },
     })
 }
 

@@ -63,15 +63,11 @@ pub fn stage_move(task: &Task, course: Course, stage: Stage) -> DiscMove
 
 // An array whose bytes from k on are those of a position.
 pub fn with_larger(pegs: [u8; LIMIT], position: &[u8], k: usize) -> [u8; LIMIT]
-    requires { length position.now ≤ limit }
+    requires { (k ≤ length position.now) × (length position.now ≤ limit) }
     ensures { (d : ℕ) → d < length position.now → get_or result d 0 ≡ cond (ltb d k) (get_or pegs d 0) (peg position.now d) }
 {
     let mut all = pegs;
-    let mut d = k;
-    while d < position.len() {
-        all[d] = position[d];
-        d += 1;
-    }
+    all[k..position.len()].copy_from_slice(&position[k..]);
     all
 }
 

@@ -1,5 +1,5 @@
 -- Where the discs are along a gathering. `p d` is the peg of disc d + 1.
-use Rattle.std.specs.Prelude.{ℕ, zero, suc, ◌-◌, ◌^◌, ◌<◌, ◌≡◌, cond, List, eqb, ltb, leb, get_or}
+use Rattle.std.specs.Prelude.{ℕ, zero, suc, ◌-◌, ◌^◌, ◌<◌, ◌≡◌, cond, List, eqb, ltb, leb, get_or, Option, Some, None}
 use Rattle.board.specs.Peg.{third}
 use Rattle.board.specs.Position.{peg}
 use Rattle.route.specs.declared.gathering.Passed.{Passed}
@@ -19,12 +19,19 @@ pub record Along (p : List ℕ) (k j r : ℕ) (a : List ℕ) : Type 0 where
   pub is : (d : ℕ) → d < k → get_or a d 0 ≡ along (peg p) k j r d
   pub pegs : (d : ℕ) → d < k → get_or a d 0 < 3
 
--- The pegs of a tower on peg t, or those of the position p where t is no peg.
-unfoldable pub stacked : List ℕ → ℕ → ℕ → ℕ
-stacked p t d = cond (ltb t 3) t (peg p d)
+-- The pegs of a tower on a peg, or those of the position p where there is no tower.
+unfoldable pub stacked : List ℕ → Option ℕ → ℕ → ℕ
+stacked p (Some t) d = t
+stacked p None d = peg p d
+
+-- Where there is a tower, it is on a peg.
+abbrev pub IsPeg : Option ℕ → Type 0
+IsPeg (Some t) = t < 3
+IsPeg None = Unit {0}
 
 -- Disc k + 1 is passed: where it is, and a gathering of the smaller discs that has them where they are.
-pub record Passes (p : List ℕ) (k j r t : ℕ) (s : Passed) : Type 0 where
+pub record Passes (p : List ℕ) (k j r : ℕ) (t : Option ℕ) (s : Passed) : Type 0 where
   pub here : along (stacked p t) (suc k) j r k ≡ s.peg
   pub below : (d : ℕ) → d < k → along (stacked p t) (suc k) j r d ≡ along (stacked p s.tower) k s.goal s.rest d
   pub target : s.goal < 3
+  pub tower : IsPeg s.tower

@@ -1,5 +1,4 @@
--- `route::gathering::first_move` meets its contract. The loop's invariant: the first move of the gathering of discs 1 to m, or `first`
--- where it has none, is the first move of the whole. The measure is m. Assumes nothing.
+-- Each disc on the way down has the first move unless a smaller one has.
 use Prim.Native.Nat.{suc, ◌-◌}
 use mathlib.Core.Path.{◌≡◌, ◌∙◌, refl, sym}
 use native.Mathlib.Numerals.{add-one}
@@ -12,21 +11,20 @@ use Rattle.route.proofs.gathering.first_move.Goals as goal
 
 pub loop-m-init : goal.loop-m-init
 loop-m-init c =
-    (omega arith, c.requires.target, refl)
+    (c.requires.target, refl)
 
 pub third-next-requires : goal.third-next-requires
 third-next-requires c =
-    (c.loop-m.invariant.1, formed_pegs _ c.requires.formed _)
+    (c.loop-m.invariant.0, formed_pegs _ c.requires.formed _)
 
 -- Disc m is not on its target: it has the first move unless a smaller disc has.
 pub loop-m-preserved-then-at-goal : goal.loop-m-preserved-then-at-goal
 loop-m-preserved-then-at-goal c =
     let less = c.loop-m.m - 1 in
     let up : suc less ≡ c.loop-m.m = omega arith in (
-      omega arith,
-      rw c.third-next.ensures (third_peg _ _ c.loop-m.invariant.1),
+      rw c.third-next.ensures (third_peg _ _ c.loop-m.invariant.0),
       rw (c.third-next.ensures, add-one)
-          (sym (gathering_first_away _ less _ c.loop-m.first c.if-at-goal.true) ∙ rw up c.loop-m.invariant.2),
+          (sym (gathering_first_away _ less _ c.loop-m.first c.if-at-goal.true) ∙ rw up c.loop-m.invariant.1),
     )
 
 -- Disc m is on its target: a smaller disc has the first move, if any has.
@@ -34,14 +32,13 @@ pub loop-m-preserved : goal.loop-m-preserved
 loop-m-preserved c =
     let less = c.loop-m.m - 1 in
     let up : suc less ≡ c.loop-m.m = omega arith in (
-      omega arith,
-      rw c.third-next.ensures (third_peg _ _ c.loop-m.invariant.1),
+      rw c.third-next.ensures (third_peg _ _ c.loop-m.invariant.0),
       rw (c.third-next.ensures, c.if-at-goal.false, third_same)
-          (sym (gathering_first_home _ less _ c.loop-m.first c.if-at-goal.false) ∙ rw up c.loop-m.invariant.2),
+          (sym (gathering_first_home _ less _ c.loop-m.first c.if-at-goal.false) ∙ rw up c.loop-m.invariant.1),
     )
 
 -- No disc is left.
 pub returns : goal.returns
 unfolding gathering
 returns c =
-    let end : c.loop-m.m ≡ 0 = omega arith in rw end at c.loop-m.invariant.2
+    let end : c.loop-m.m ≡ 0 = omega arith in rw end at c.loop-m.invariant.1

@@ -1,6 +1,5 @@
--- `route::gathering::first_move` meets its contract. The loop's invariant: the first move of the gathering of discs 1 to m, or `first`
--- where it has none, is the first move of the whole. The measure is m. Assumes nothing.
-use Prim.Native.Nat.{◌≤◌, ◌<◌}
+-- The loop's invariant: the first move of the gathering of discs 1 to m, or `first` where it has none, is the first move of the whole.
+use Prim.Native.Nat.{◌<◌}
 use mathlib.Core.Path.{◌≡◌}
 use lib.ListN.{get_or}
 use Rattle.board.specs.Position.{peg}
@@ -8,7 +7,4 @@ use Rattle.route.specs.Route.{gathering, move_at}
 use Rattle.route.proofs.gathering.first_move.Given as goal
 
 abbrev pub invariant-loop-m : goal.invariant-loop-m
-invariant-loop-m l = (l.m ≤ l.k) × (l.goal < 3) × (get_or (gathering (peg l.position) l.m l.goal) 0 l.first ≡ move_at (gathering (peg l.position) l.k l.target) 0)
-
-abbrev pub decreases-loop-m : goal.decreases-loop-m
-decreases-loop-m l = l.m
+invariant-loop-m l = (l.goal < 3) × (get_or (gathering (peg l.position) l.m l.goal) 0 l.first ≡ move_at (gathering (peg l.position) l.k l.target) 0)

@@ -8,7 +8,7 @@ use Rattle.route.proofs.gathering.pass.Goals as goal
 
 pub third-next-requires : goal.third-next-requires
 third-next-requires c =
-    (c.requires.target, rw c.peg_of-at.ensures (stacked_pegs _ _ c.requires.formed _))
+    (c.requires.gatherable.target, rw c.peg_of-at.ensures (stacked_pegs _ _ c.requires.gatherable.formed c.requires.tower_peg _))
 
 pub overflow_add-last : goal.overflow_add-last
 overflow_add-last c =
@@ -17,18 +17,18 @@ overflow_add-last c =
 -- The disc is on its target.
 pub returns-then-at-goal : goal.returns-then-at-goal
 returns-then-at-goal c =
-    pass_home _ _ _ _ _ c.requires.target (rw c.peg_of-at.ensures at c.if-at-goal.true)
+    pass_home _ _ _ _ _ c.requires.gatherable.target c.requires.tower_peg (rw c.peg_of-at.ensures at c.if-at-goal.true)
 
 -- The disc has yet to move.
 pub returns-then-last-rest : goal.returns-then-last-rest
 returns-then-last-rest c =
     rw (c.third-next.ensures, c.peg_of-at.ensures, c.length-last.ensures, tower_more)
-    (pass_before _ _ _ _ _ c.requires.target (rw c.peg_of-at.ensures at c.if-at-goal.false)
+    (pass_before _ _ _ _ _ c.requires.gatherable.target c.requires.tower_peg (rw c.peg_of-at.ensures at c.if-at-goal.false)
     (rw (c.length-last.ensures, tower_more) at c.if-last-rest.true))
 
 -- The disc has moved.
 pub returns : goal.returns
 returns c =
     rw (c.third-next.ensures, c.peg_of-at.ensures)
-    (pass_after _ _ _ _ _ c.requires.target (rw c.peg_of-at.ensures at c.if-at-goal.false)
+    (pass_after _ _ _ _ _ c.requires.gatherable.target c.requires.tower_peg (rw c.peg_of-at.ensures at c.if-at-goal.false)
     (rw (c.length-last.ensures, tower_more) at c.if-last-rest.false))

@@ -1,5 +1,4 @@
--- `route::gathering::pegs_along` meets its contract. The loop's invariant: what is left of the gathering has discs 1 to m where the
--- whole has them, and the array has the others there. The measure is m. Assumes nothing.
+-- Each disc is passed once, from the largest downwards.
 use Prim.Native.Nat.{ℕ, suc, ◌-◌, ◌≤◌, ◌<◌}
 use mathlib.Core.Path.{◌≡◌, refl}
 use mathlib.Core.List.{List}
@@ -24,34 +23,36 @@ from_less a m x hm e old d l h =
 pub loop-m-init : goal.loop-m-init
 unfolding stacked
 loop-m-init c =
-    (omega arith, c.requires.target, refl, λ d l. refl, λ d l h. absurd (omega arith))
+    record { goal_peg = c.requires.target; tower_peg = tt; size = refl; left = λ d l. refl; done = λ d l h. absurd (omega arith) }
 
 pub pass-passed-requires : goal.pass-passed-requires
 pass-passed-requires c =
     record {
-      there = omega arith;
-      within = omega arith;
-      formed = c.requires.formed;
-      target = c.loop-m.invariant.1;
+      gatherable =
+          record { there = omega arith; within = omega arith; formed = c.requires.formed; target = c.loop-m.invariant.goal_peg };
+      tower_peg = c.loop-m.invariant.tower_peg;
     }
 
 -- Disc m is passed.
 pub loop-m-preserved : goal.loop-m-preserved
 loop-m-preserved c =
+    let loop = c.loop-m.invariant in
     let less = c.loop-m.m - 1 in
-    let up : suc less ≡ c.loop-m.m = omega arith in (
-      omega arith,
-      c.pass-passed.ensures.target,
-      simp length-set c.loop-m.invariant.2,
-      λ d l. rw (← c.pass-passed.ensures.below d l, up) (c.loop-m.invariant.3 d (omega arith)),
-      from_less c.loop-m.pegs less _ (omega arith) (rw (← c.pass-passed.ensures.here, up) (c.loop-m.invariant.3 less (omega arith)))
-          (λ d l. c.loop-m.invariant.4 d (omega arith)),
-    )
+    let up : suc less ≡ c.loop-m.m = omega arith in
+    record {
+      goal_peg = c.pass-passed.ensures.target;
+      tower_peg = c.pass-passed.ensures.tower;
+      size = simp length-set loop.size;
+      left = λ d l. rw (← c.pass-passed.ensures.below d l, up) (loop.left d (omega arith));
+      done =
+          from_less c.loop-m.pegs less _ (omega arith) (rw (← c.pass-passed.ensures.here, up) (loop.left less (omega arith)))
+          (λ d l. loop.done d (omega arith));
+    }
 
 -- No disc is left.
 pub returns : goal.returns
 returns c =
-    let has = c.loop-m.invariant.4 in
+    let has = c.loop-m.invariant.done in
     record {
       is = λ d. has d (omega arith);
       pegs = λ d h. rw (has d (omega arith) h) (along_pegs _ (formed_pegs _ c.requires.formed) _ _ _ c.requires.target d);

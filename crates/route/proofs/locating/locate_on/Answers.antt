@@ -18,8 +18,8 @@ returns-then-there-back c =
     rw (plans, ← c.shortest-there.ensures, ← c.shortest-back.ensures, ← c.shortest.ensures, ne_eqb _ _ c.if-there-back.true)
 
 -- The position is on route 0.
-pub returns-then-same_position : goal.returns-then-same_position
-returns-then-same_position c =
+pub returns-then-on_first : goal.returns-then-on_first
+returns-then-on_first c =
     let plans = located_plans _ c.args.task.now.ends c.requires.position_len c.requires.well_formed _ _ c.plan.ensures c.plan-2.ensures c.plan-plan.ensures in
     let first = rw (← c.requires.position_len) at c.route_pegs-pegs.ensures in
     rw (
@@ -29,13 +29,13 @@ returns-then-same_position c =
       ← c.shortest.ensures,
       eq-eqb _ _ c.if-there-back.false,
       ← first,
-      ← c.same_position.ensures,
-      c.if-same_position.true,
+      ← c.same_position-on_first.ensures,
+      c.if-on_first.true,
     )
 
 -- The position is on route 1 only.
-pub returns-else-same_position : goal.returns-else-same_position
-returns-else-same_position c =
+pub returns-else-on_first : goal.returns-else-on_first
+returns-else-on_first c =
     let plans = located_plans _ c.args.task.now.ends c.requires.position_len c.requires.well_formed _ _ c.plan.ensures c.plan-2.ensures c.plan-plan.ensures in
     let first = rw (← c.requires.position_len) at c.route_pegs-pegs.ensures in
     rw (
@@ -45,6 +45,6 @@ returns-else-same_position c =
       ← c.shortest.ensures,
       eq-eqb _ _ c.if-there-back.false,
       ← first,
-      ← c.same_position.ensures,
-      c.if-same_position.false,
+      ← c.same_position-on_first.ensures,
+      c.if-on_first.false,
     )
