@@ -1,17 +1,20 @@
 -- A stepper that starts at an index of a route is ready for the moves from there.
 use Prim.Native.Nat.{ℕ, ◌-◌, ◌≤◌, ◌<◌}
-use mathlib.Core.Path.{◌≡◌, sym}
+use mathlib.Core.Path.{◌≡◌, ◌∙◌, refl, sym, ap}
 use mathlib.Core.List.{List}
 use native.Mathlib.Omega.{arith}
 use lib.ListN.{length, take, drop, length-drop}
 use Rattle.board.specs.Position.{peg, WellFormed}
 use Rattle.plan.specs.Plan.{largest, plan_of, routes, shortest}
 use Rattle.plan.specs.Inner.Sound.{Ends}
+use Rattle.route.specs.Inner.Stage.{course_of, stage_of}
 use Rattle.route.specs.Route.{route_of, after}
+use Rattle.plan.specs.declared.answer.Plan.{Plan}
 use Rattle.route.specs.declared.answer.DiscMove.{DiscMove}
 use Rattle.route.specs.declared.course.Course.{Course}
 use Rattle.route.specs.declared.course.Stage.{Stage}
 use Rattle.route.specs.declared.course.Stage.TheVariants.{Gathering, Shifting, Spreading}
+use Rattle.route.specs.declared.opened.Opened.{Opened}
 use Rattle.route.proofs.Calls.Locating.{route_between}
 use Rattle.route.proofs.Shortest.Routes.{route_leads}
 use Rattle.route.proofs.Shortest.View.{none, some, largest_view}
@@ -19,7 +22,7 @@ use Rattle.run.specs.Inner.Ready.{Ready}
 use Rattle.run.specs.Inner.Start.{start_leg, Spreads, Started}
 use Rattle.run.specs.declared.stepper.Leg.{Leg}
 use Rattle.run.specs.declared.stepper.Stepper.{Stepper}
-use Rattle.run.proofs.Ahead.{Ahead}
+use Rattle.run.proofs.Ahead.{Ahead, route_ahead}
 
 -- The position after i moves of a route is well formed, and of the start's size.
 pub route_formed : (s t : List ℕ) → Ends s t → (r : ℕ) → r < routes (plan_of s t) → (i : ℕ) → i ≤ shortest (plan_of s t)
@@ -59,3 +62,41 @@ ready_start formed size a w =
       small = w.small;
       aimed = λ odd. rw w.leg w.aimed;
     }
+
+module _ (o : Opened) where
+  -- The start, the goal and the route of an opened task.
+  abbrev from : List ℕ
+  from = o.task.start.now
+
+  abbrev to : List ℕ
+  to = o.task.goal.now
+
+  abbrev route : List DiscMove
+  route = route_of from to o.route
+
+  -- The moves of its route from an index on are as many as remain.
+  pub opened_left : (i : ℕ) → length (drop i route) ≡ shortest o.plan - i
+  opened_left i = route_left from to o.task.ends o.route (rw o.planned at o.known) i ∙ sym (ap (λ (p : Plan). shortest p - i) o.planned)
+
+  -- The position at an index is well formed, and of the start's size.
+  pub opened_formed : {i : ℕ} → i ≤ shortest o.plan → WellFormed (after from (take i route)) × (length (after from (take i route)) ≡ length from)
+  opened_formed h = route_formed from to o.task.ends o.route (rw o.planned at o.known) _ (rw o.planned at h)
+
+  -- The first n of the bytes b are the pegs at an index below its length.
+  module _ {i n : ℕ} (h : i < shortest o.plan) (b : List ℕ) (size : n ≡ length from) (read : take (length from) b ≡ after from (take i route)) where
+    pub pegs_formed : WellFormed (take n b)
+    pegs_formed = rw (size, read) (opened_formed {i = i} (omega arith)).0
+
+    pub pegs_size : length (take n b) ≡ length from
+    pegs_size = rw (size, read) (opened_formed {i = i} (omega arith)).1
+
+    -- The leg at its stage has the rest of the route ahead.
+    pub leg_ahead : {c : Course} {g : Stage} {l : Leg} → c ≡ course_of from to o.route → g ≡ stage_of c i
+        → l ≡ start_leg c g (peg (take n b)) (peg to) (length (take n b))
+        → Ahead (peg (take n b)) (peg to) (length (take n b)) l (drop i route)
+    leg_ahead course stage leg = rw (leg, stage, course, pegs_size, size, read) (route_ahead from to o.task.ends o.route i (rw o.planned at h))
+
+    -- And what has started before it is ready for it.
+    pub leg_ready : {s : Stepper} {l : Leg} → Ahead (peg (take n b)) (peg to) (length (take n b)) l (drop i route) → Started s (take n b) l
+        → Ready s (after from (take i route)) (peg to) (drop i route)
+    leg_ready a w = rw (← read, ← size) (ready_start pegs_formed refl a w)

@@ -1,3 +1,85 @@
+// The stepper at an index of a route: the position there, the leg, and disc 1's target.
+ghost use Rattle.std.specs.Prelude.{◌≡◌, ◌<◌, ◌≤◌, length, take, drop};
+ghost use Rattle.board.specs.Position.{peg, WellFormed};
+ghost use Rattle.board.specs.Task.{limit};
+ghost use Rattle.plan.specs.Plan.{shortest};
+ghost use Rattle.route.specs.Inner.Aim.{aim};
+ghost use Rattle.route.specs.Route.{route_of, after};
+ghost use Rattle.run.specs.Inner.Ready.{Ready};
+ghost use Rattle.run.specs.Inner.Start.{start_leg, Spreads, Started};
+
+use crate::pegs::Pegs;
+use crate::stepper::{Leg, Stepper, Turn};
+use route::Opened;
+use route::course::{Course, Stage};
+
+// Disc 1's target when discs 1 to k + 1 are gathered on a target.
+fn aim_of(pegs: &[u8], k: usize, target: u8) -> u8
+    requires { (k < length pegs.now) × WellFormed pegs.now × (target < 3) }
+    ensures { result ≡ aim (peg pegs.now) k target }
+{
+    let mut goal = target;
+    let mut d = k;
+    while 0 < d {
+        goal = board::third(goal, pegs[d]);
+        d -= 1;
+    }
+    goal
+}
+
+// The leg at a stage of a course. In a spreading it is of the largest disc that is not on its goal peg.
+fn start_leg(course: Course, stage: Stage, pegs: &[u8], goal: &[u8]) -> Leg
+    requires pegs_len { length pegs.now ≡ length goal.now }
+    requires spreads { Spreads stage (peg pegs.now) (peg goal.now) (length pegs.now) }
+    ensures { result ≡ start_leg course stage (peg pegs.now) (peg goal.now) (length pegs.now) }
+{
+    match stage {
+        Stage::Gathering(_) => Leg {
+            disc: course.disc,
+            from: course.from,
+            to: course.first_stop(),
+            again: course.detour,
+        },
+        Stage::Shifting(_) => Leg {
+            disc: course.disc,
+            from: course.free,
+            to: course.to,
+            again: false,
+        },
+        Stage::Spreading(_) => {
+            let disc = plan::crossing::largest_moving(pegs, goal) - 1;
+            Leg {
+                disc: disc,
+                from: pegs[disc],
+                to: goal[disc],
+                again: false,
+            }
+        }
+    }
+}
+
+// The stepper at a position before a leg.
+fn stepper_at(pegs: &[u8], leg: Leg) -> Stepper
+    requires disc_in_bounds { (leg.disc < length pegs.now) × (leg.from < 3) × (leg.to < 3) }
+    requires pegs_len_bound { (length pegs.now ≤ limit) × WellFormed pegs.now }
+    ensures { Started result pegs.now leg }
+{
+    let aside = board::third(leg.from, leg.to);
+    let mut last = leg.disc;
+    if 0 < last {
+        last -= 1;
+    }
+    Stepper {
+        pegs: Pegs::of(pegs),
+        turn: Turn {
+            small: pegs[0],
+            aim: aim_of(pegs, last, aside),
+            left: plan::stack::gather_discs(pegs, leg.disc, aside),
+        },
+        leg: leg,
+    }
+}
+
 // The stepper at an index of a route below its length.
 pub fn start_at(opened: &Opened, index: u64) -> Stepper
     requires { index < shortest opened.now.plan }
