@@ -1,15 +1,15 @@
 -- Laws of well-formed positions: a position is well formed when its bytes are all pegs.
-use Prim.Native.Nat.{ℕ, zero, suc, ◌<◌, ◌≤◌}
-use mathlib.Core.Bool.{Bool, true, false, not, ◌&&◌, and_assoc, and-eq-true_iff, false≢true}
+use Prim.Native.Nat.{ℕ, zero, suc, ◌<◌}
+use mathlib.Core.Bool.{Bool, true, false, not, and-eq-true_iff, false≢true}
 use mathlib.Core.List.{List, [], ◌∷◌, ◌++◌}
 use mathlib.Core.Logic.{◌↔◌}
-use mathlib.Core.Path.{◌≡◌, refl, ap, sym, ◌∙◌}
+use mathlib.Core.Path.{◌≡◌, refl, sym, ◌∙◌}
 use native.Mathlib.Decide.{dec_lt}
 use native.Mathlib.Omega.{arith}
 use borrow.Author.Tests.{lt-ltb, ltb-true, not-true}
 use lib.Dec.{ltb}
-use lib.ListN.{length, take, drop, set, replicate, drop_of_length-le}
-use lib.Seq.{drop-cons}
+use lib.ListN.{length, take, drop, set, replicate}
+use Rattle.std.proofs.lemmas.List.Recursion.{and_from_places, and_set}
 use Rattle.board.specs.Fault.{AboveTwo}
 use Rattle.board.specs.Position.{peg, well_formed, WellFormed}
 
@@ -41,8 +41,8 @@ formed_pegs (b ∷ p) h (suc d) = formed_pegs p (formed_tail b p h) d
 
 -- A position whose discs are all on pegs is well formed.
 pub pegs_formed : (p : List ℕ) → ((d : ℕ) → d < length p → peg p d < 3) → WellFormed p
-pegs_formed [] h = formed_nil
-pegs_formed (b ∷ p) h = formed_cons b p (h 0 (omega arith)) (pegs_formed p (λ d l. h (suc d) (omega arith)))
+unfolding well_formed
+pegs_formed p h = and_from_places well_formed (λ b. ltb b 3) refl (λ _ _. refl) p 0 (λ d l. lt-ltb (peg p d) 3 (h d l))
 
 -- A position that is not well formed has a byte above 2.
 formed_fails : (p : List ℕ) → well_formed p ≡ false → AboveTwo p
@@ -83,24 +83,10 @@ formed_append (b ∷ p) q hp hq = formed_cons b (p ++ q) (formed_head b p hp) (f
 
 -- A disc of a well-formed position put on any peg leaves the position well formed.
 pub formed_set : (p : List ℕ) (i b : ℕ) → WellFormed p → b < 3 → WellFormed (set p i b)
-formed_set [] i b h hb = formed_nil
-formed_set (c ∷ p) zero b h hb = formed_cons b p hb (formed_tail c p h)
-formed_set (c ∷ p) (suc i) b h hb = formed_cons c (set p i b) (formed_head c p h) (formed_set p i b (formed_tail c p h) hb)
+unfolding well_formed
+formed_set p i b h hb = and_set well_formed (λ c. ltb c 3) refl (λ _ _. refl) p i b (lt-ltb b 3 hb) h
 
 -- All discs on one peg is a well-formed position.
 pub formed_replicate : (n b : ℕ) → b < 3 → WellFormed (replicate n b)
 formed_replicate zero b hb = formed_nil
 formed_replicate (suc n) b hb = formed_cons b (replicate n b) hb (formed_replicate n b hb)
-
--- The test from byte i on is the test of that byte and of those after it.
-formed_from : (p : List ℕ) (i : ℕ) → i < length p → well_formed (drop i p) ≡ (ltb (peg p i) 3 && well_formed (drop (suc i) p))
-unfolding well_formed
-formed_from p i h = ap well_formed (drop-cons p i 0 h)
-
--- A test so far, with that of byte i and of the bytes after it, is the test so far with that of the bytes from i on.
-pub formed_past : (a : Bool) (p : List ℕ) (i : ℕ) → i < length p → (a && ltb (peg p i) 3 && well_formed (drop (suc i) p)) ≡ (a && well_formed (drop i p))
-formed_past a p i h = rw (formed_from p i h) (and_assoc a (ltb (peg p i) 3) (well_formed (drop (suc i) p)))
-
--- Where no byte is left the test passes.
-pub formed_end : (p : List ℕ) (i : ℕ) → length p ≤ i → WellFormed (drop i p)
-formed_end p i h = rw (drop_of_length-le p h) formed_nil

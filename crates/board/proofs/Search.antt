@@ -5,35 +5,37 @@ use mathlib.Core.Bool.{Bool, true, false, not, ◌||◌, and-eq-true_iff, false�
 use mathlib.Core.List.{List, [], ◌∷◌}
 use mathlib.Core.Logic.{◌≢◌}
 use native.Mathlib.Omega.{arith}
-use borrow.Author.Tests.{eq-eqb, ne_eqb, eqb-true, eqb-false, not-true, ltb-true, lt-ltb}
+use borrow.Author.Tests.{ne_eqb, eqb-false, not-true, ltb-true, lt-ltb}
 use lib.Dec.{eqb, ltb}
 use lib.ListN.{length}
+use Rattle.std.proofs.Common.{Decides}
+use Rattle.std.proofs.lemmas.Bool.{false_from_ne_true}
+use Rattle.std.proofs.lemmas.Bool.Decides.{same_from_decides}
+use Rattle.std.proofs.lemmas.Slice.Eq.{bytes_eq-Decides, compares_Decides}
+use Rattle.std.specs.Str.{bytes_eq}
 use Rattle.board.specs.Move.{Move, Legal, Leads, done, next, top, moved}
 use Rattle.board.specs.Fewest.{Fewest, same, legal, any_peg, reaches, first, fewest}
 
+-- Two positions pass the test exactly where they are the same.
+pub same_decides : (p q : List ℕ) → Decides (same p q) (p ≡ q)
+unfolding same
+same_decides = compares_Decides same (record { empty = refl; shorter = λ c q. refl; longer = λ b p. refl; heads = λ b c p q. refl })
+
+-- So the test is that of `==`.
+pub same_each : (p q : List ℕ) → same p q ≡ bytes_eq p q
+same_each p q = same_from_decides (same p q) _ (same_decides p q) (bytes_eq-Decides p q)
+
 -- Two positions that pass the test are the same.
 pub same_sound : (p q : List ℕ) → same p q ≡ true → p ≡ q
-unfolding same
-same_sound [] [] e = refl
-same_sound [] (c ∷ q) e = absurd (false≢true e)
-same_sound (b ∷ p) [] e = absurd (false≢true e)
-same_sound (b ∷ p) (c ∷ q) e =
-    let both = (and-eq-true_iff (eqb b c) (same p q)).0 e in
-    cc (eqb-true b c both.0, same_sound p q both.1)
+same_sound p q = (same_decides p q).0
 
 -- A position passes the test against itself.
 pub same_refl : (p : List ℕ) → same p p ≡ true
-unfolding same
-same_refl [] = refl
-same_refl (b ∷ p) = rw (eq-eqb b b refl) (same_refl p)
+same_refl p = (same_decides p p).1 refl
 
 -- Two positions that differ fail it.
 pub same_apart : (p q : List ℕ) → p ≢ q → same p q ≡ false
-same_apart p q n = at (same p q) refl
-  where
-    at : (b : Bool) → same p q ≡ b → same p q ≡ false
-    at true e = absurd (n (same_sound p q e))
-    at false e = e
+same_apart p q n = false_from_ne_true _ (λ e. n (same_sound p q e))
 
 -- A move between pegs that passes the test is legal.
 pub legal_sound : (p : List ℕ) (m : Move) → m.from < 3 → m.to < 3 → legal p m ≡ true → Legal p m

@@ -6,6 +6,7 @@ ghost use Rattle.board.specs.Task.{limit};
 use crate::position::{LIMIT, only_pegs};
 
 // The array of a position.
+#[tactic(auto, using(crate::proofs::Arrays::drop_zeros))]
 pub fn padded_array(position: &[u8]) -> [u8; LIMIT]
     requires { length position.now ≤ limit }
     ensures { result ≡ padded position.now }
@@ -16,28 +17,17 @@ pub fn padded_array(position: &[u8]) -> [u8; LIMIT]
 }
 
 // Whether all bytes are 0.
-#[tactic(auto, using(crate::proofs::Arrays::zero_here, crate::proofs::Arrays::zero_fails, crate::proofs::Arrays::zero_end))]
 fn all_zero(bytes: &[u8]) -> bool
     ensures { result ≡ all_zero bytes.now }
 {
-    let mut i = 0;
-    while i < bytes.len() {
-        if bytes[i] != 0 {
-            return false;
-        }
-        i += 1;
-    }
-    true
+    bytes.iter().all(|b| *b == 0)
 }
 
 // Whether an array holds a position of n discs.
+#[tactic(auto, using(crate::proofs::Arrays::part_to_limit), unfolding(crate::specs::Held::holds_position))]
 pub fn holds_position(n: usize, bytes: [u8; LIMIT]) -> bool
     requires { n ≤ limit }
     ensures { result ≡ holds_position n bytes }
 {
-    if only_pegs(&bytes[..n]) {
-        all_zero(&bytes[n..])
-    } else {
-        false
-    }
+    only_pegs(&bytes[..n]) && all_zero(&bytes[n..])
 }

@@ -10,12 +10,10 @@ use crate::refusal::Refusal;
 pub fn top_of(position: &[u8], peg: u8) -> usize
     ensures { result ≡ top position.now peg }
 {
-    for (i, b) in position.iter().enumerate() {
-        if *b == peg {
-            return i;
-        }
-    }
-    position.len()
+    position
+        .iter()
+        .position(|b| *b == peg)
+        .unwrap_or(position.len())
 }
 
 // The first fault of a move on a position.

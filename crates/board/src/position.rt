@@ -14,30 +14,15 @@ pub const LIMIT: usize = 60;
 pub fn only_pegs(bytes: &[u8]) -> bool
     ensures { result ≡ well_formed bytes.now }
 {
-    let mut all = true;
-    let mut i = 0;
-    while i < bytes.len() {
-        all = all & (bytes[i] < 3);
-        i += 1;
-    }
-    all
+    bytes.iter().fold(true, |all, b| all & (*b < 3))
 }
 
 // Whether two positions are the same.
+#[tactic(auto, using(crate::proofs::Search::same_each))]
 pub fn same_position(a: &[u8], b: &[u8]) -> bool
     ensures { result ≡ same a.now b.now }
 {
-    if a.len() != b.len() {
-        return false;
-    }
-    let mut i = 0;
-    while i < a.len() {
-        if a[i] != b[i] {
-            return false;
-        }
-        i += 1;
-    }
-    true
+    a == b
 }
 
 // The first fault of a position.

@@ -1,20 +1,15 @@
--- `board::position::only_pegs` meets its contract. The loop's invariant: `i` is at most the length, and `all` with the test of the bytes from `i` on
--- is the test of all bytes. The measure is what is left of the length. Assumes nothing.
-use mathlib.Core.Bool.{and-true}
-use mathlib.Core.Path.{◌∙◌}
-use native.Mathlib.Omega.{arith}
-use native.Mathlib.Numerals.{add-one}
-use Rattle.board.proofs.Formed.{formed_past, formed_end}
+-- The test so far is that of the bytes so far.
+use Rattle.std.proofs.Common.{◌≡◌, ltb, refl, rules, tests}
+use Rattle.std.proofs.lemmas.Fn.{fold_over, fronts}
+use Rattle.std.proofs.lemmas.Iterator.{YieldsList-from_slice}
+use Rattle.std.proofs.lemmas.List.Recursion.{and_push}
+use Rattle.board.specs.Position.{well_formed}
 use Rattle.board.proofs.position.only_pegs.Goals as goal
 
--- One byte more is tested.
-pub loop-i-preserved : goal.loop-i-preserved
-loop-i-preserved c =
-    let loop = c.loop-i in
-    let past = formed_past loop.all c.args.bytes.now loop.i c.loop-i-test.true in
-    (omega arith, rw add-one (past ∙ loop.invariant.1))
-
--- No byte is left.
 pub returns : goal.returns
+unfolding well_formed
 returns c =
-    cc (and-true c.loop-i.all, formed_end _ _ c.loop-i-test.false)
+    let given = YieldsList-from_slice {s = c.iter.result} c.args.bytes.now cc in
+    fold_over fronts (λ b. b.now) _ (λ p all. all ≡ well_formed p) _
+    (λ p all b next f so_far called. search (rules, tests, and_push well_formed (λ x. ltb x 3) refl (λ _ _. refl)))
+    c.iter.result c.args.bytes.now _ _ given.runs refl c.fold.ensures.ran
