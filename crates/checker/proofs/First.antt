@@ -14,18 +14,19 @@ use Rattle.board.specs.Fewest.{same}
 use Rattle.board.specs.Move.{Move, top}
 use Rattle.board.specs.Peg.{third}
 use Rattle.board.specs.Position.{peg, WellFormed}
-use Rattle.board.specs.Reply.{pass}
+use Rattle.board.specs.Reply.{refused, answer, pass}
 use Rattle.board.specs.Task.{start, goal, task_check}
 use Rattle.board.proofs.Formed.{formed_pegs}
 use Rattle.board.proofs.Pegs.{third_peg}
+use Rattle.board.proofs.Replies.{refused_answer, answer_same}
 use Rattle.board.proofs.Search.{same_refl, same_apart}
 use Rattle.plan.specs.Plan.{plan_of, routes}
 use Rattle.plan.proofs.Gathering.{Pegs}
 use Rattle.plan.proofs.Three.{three}
-use Rattle.route.specs.Answer.{length_of, count_of, task_route, letter, letters}
+use Rattle.route.specs.Answer.{length_of, count_of, task_route, letter, letters, move_answer}
 use Rattle.route.specs.Route.{carry, plain, gathering, direct_route, detour_route, route_by, route_of, move_at, after}
 use Rattle.route.specs.declared.answer.DiscMove.{DiscMove}
-use Rattle.route.proofs.Calls.Answers.{route_length, route_pegs, move_disc}
+use Rattle.route.proofs.Calls.Answers.{route_length, route_pegs, move_accepts, move_disc}
 use Rattle.route.proofs.Calls.Opened.{Routed, accepted_routed}
 use Rattle.route.proofs.Gatherings.FirstMove.{first_append, gathering_first_home, gathering_first_away}
 use Rattle.route.proofs.Gatherings.Gathering.{gathering_none}
@@ -93,7 +94,7 @@ module _ (t : List ℕ) (accepted : task_check t ≡ pass) (two : count_of t ≡
   routed r l = accepted_routed t accepted r (omega arith)
 
   -- They have a first move.
-  pub tie_moves : 0 < length_of t
+  tie_moves : 0 < length_of t
   tie_moves =
       elim (dec_lt 0 (length_of t)) [
         | yes l ↦ l
@@ -125,13 +126,13 @@ module _ (t : List ℕ) (accepted : task_check t ≡ pass) (two : count_of t ≡
       routes_part (start t) (goal t) (s.start_length ∙ sym s.goal_length) s.start_formed s.goal_formed two (rw one at same)
 
   -- The first move of a route is from a peg to a peg.
-  pub tie_pegs : (r : ℕ) → r < 2 → ((move_at (task_route t r) 0).from < 3) × ((move_at (task_route t r) 0).to < 3)
+  tie_pegs : (r : ℕ) → r < 2 → ((move_at (task_route t r) 0).from < 3) × ((move_at (task_route t r) 0).to < 3)
   tie_pegs r l =
       let head = drop-cons (task_route t r) 0 (record { disc = 0; from = 0; to = 0 }) (omega (arith, route_length t r (routed r l), tie_moves)) in
       let pegs = rw head at (route_pegs t r (routed r l)) in (pegs.0, pegs.1)
 
   -- Bytes with another first letter are not the letters of route 0.
-  pub other_first : (l : List ℕ) → get_or l 0 0 ≢ letter (move_at (task_route t 0) 0).from → same l (letters (task_route t 0)) ≡ false
+  other_first : (l : List ℕ) → get_or l 0 0 ≢ letter (move_at (task_route t 0) 0).from → same l (letters (task_route t 0)) ≡ false
   other_first l n =
       same_apart l (letters (task_route t 0)) (λ e. n (ap (λ (k : List ℕ). get_or k 0 0) (e ∙ tie_letters 0 (omega arith))))
 
@@ -144,11 +145,11 @@ module _ (t : List ℕ) (accepted : task_check t ≡ pass) (two : count_of t ≡
     second_letter = ap (λ (k : List ℕ). get_or k 1 0) (ours ∙ tie_letters r known)
 
     -- There are two letters.
-    pub two_letters : 2 ≤ length l
+    two_letters : 2 ≤ length l
     two_letters = rw (ours, tie_letters r known) (omega arith)
 
     -- With the same first letter, the second tells.
-    pub same_first : get_or l 0 0 ≡ letter (move_at (task_route t 0) 0).from
+    same_first : get_or l 0 0 ≡ letter (move_at (task_route t 0) 0).from
         → eqb (get_or l 1 0) (letter (move_at (task_route t 0) 0).to) ≡ same l (letters (task_route t 0))
     same_first e =
         elim (ℕ_discrete r 0) [
@@ -172,5 +173,36 @@ only_first t l o one =
     rw is (same_refl (letters (task_route t 0)))
 
 -- Of a task that has not, there are two.
-pub two_routes : (t : List ℕ) → count_of t ≢ 1 → count_of t ≡ 2
+two_routes : (t : List ℕ) → count_of t ≢ 1 → count_of t ≡ 2
 two_routes t n = elim (routes_count (start t) (goal t)) [ inl one ↦ absurd (n one) | inr two ↦ two ]
+
+-- Move answers their first move.
+first_answered : (t : List ℕ) → task_check t ≡ pass → count_of t ≢ 1 → move_answer t 0 0 ≡ answer (move_at (task_route t 0) 0)
+first_answered t accepted tie =
+    let two = two_routes t tie in move_accepts t 0 (routed t accepted two 0 (omega arith)) 0 (tie_moves t accepted two)
+
+pub first_there : (t : List ℕ) → task_check t ≡ pass → count_of t ≢ 1 → {k : ℕ} → refused k ≡ move_answer t 0 0 → ⊥
+first_there t accepted tie e = refused_answer (e ∙ first_answered t accepted tie)
+
+-- What the first move of route 0 tells of letters: there are two, and they tell whether they are those of route 0.
+pub record Told (t l : List ℕ) (m : DiscMove) : Type 0 where
+  pub room : 2 ≤ length l
+  pub from_peg : m.from < 3
+  pub to_peg : m.to < 3
+  pub other : get_or l 0 0 ≢ letter m.from → same l (letters (task_route t 0)) ≡ false
+  pub second : get_or l 0 0 ≡ letter m.from → eqb (get_or l 1 0) (letter m.to) ≡ same l (letters (task_route t 0))
+
+pub told : (t l : List ℕ) → OneOfOurs t l → count_of t ≢ 1 → {m : DiscMove} → answer m ≡ move_answer t 0 0 → Told t l m
+told t l ours tie {m} e =
+    let two = two_routes t tie in
+    let known : ours.route < 2 = omega (arith, ours.there) in
+    let is : move_at (task_route t 0) 0 ≡ m = answer_same (sym (first_answered t ours.accepted tie) ∙ sym e) in
+    let (from_peg, to_peg) = tie_pegs t ours.accepted two 0 (omega arith) in
+    rw (← is)
+    (record {
+      room = two_letters t ours.accepted two l ours.route known ours.same;
+      from_peg = from_peg;
+      to_peg = to_peg;
+      other = other_first t ours.accepted two l;
+      second = same_first t ours.accepted two l ours.route known ours.same;
+    })

@@ -27,15 +27,15 @@ returns-then-made-letters c =
 -- The list is not as long as the fewest.
 pub returns-then-shortest-made : goal.returns-then-shortest-made
 returns-then-shortest-made c =
-    ended_longer _ _ _ _ c.walk-walked.ensures c.if-letters-eq1.false c.if-made-letters.false c.requires.ends (λ e. omega (arith, c.if-shortest-made.true, c.requires.shortest_value))
+    ended_longer _ _ _ _ c.walk-walked.ensures c.if-letters-eq1.false c.if-made-letters.false c.args.task.now.ends (λ e. omega (arith, c.if-shortest-made.true, c.requires))
 
 -- It ends at the goal.
 pub returns-then-walked : goal.returns-then-walked
 returns-then-walked c =
     ended_there _ _ _ _ c.walk-walked.ensures c.if-letters-eq1.false c.if-made-letters.false
-    (omega (arith, c.if-shortest-made.false, c.requires.shortest_value)) c.if-walked.true
+    (omega (arith, c.if-shortest-made.false, c.requires)) c.if-walked.true
 
 -- It ends elsewhere.
 pub returns-else-walked : goal.returns-else-walked
 returns-else-walked c =
-    ended_elsewhere _ _ _ _ c.walk-walked.ensures c.if-letters-eq1.false c.if-made-letters.false c.requires.ends c.if-walked.false
+    ended_elsewhere _ _ _ _ c.walk-walked.ensures c.if-letters-eq1.false c.if-made-letters.false c.args.task.now.ends c.if-walked.false
