@@ -11,6 +11,7 @@ mod moves;
 mod opened;
 pub mod opening;
 mod part;
+mod passing;
 pub mod pegs;
 mod placing;
 mod stage;

@@ -8,18 +8,9 @@ ghost use Rattle.route.specs.Inner.Stage.{CourseFits, StageFits, first_move_of, 
 
 use crate::answer::DiscMove;
 use crate::course::{Course, Stage};
-use crate::gathering;
+use crate::gathering::Gathering;
 use board::LIMIT;
 use plan::Task;
-
-// The first move with so many moves of a gathering left.
-fn move_along(position: &[u8], k: usize, target: u8, left: u64) -> DiscMove
-    requires { Gatherable position.now k target }
-    ensures { result ≡ first_move_of (along (peg position.now) k target left) k target }
-{
-    let pegs = gathering::pegs_along(position, k, target, left);
-    gathering::first_move(&pegs[..k], k, target)
-}
 
 // The next move at a stage.
 pub fn stage_move(task: &Task, course: Course, stage: Stage) -> DiscMove
@@ -37,7 +28,12 @@ pub fn stage_move(task: &Task, course: Course, stage: Stage) -> DiscMove
                     to: course.first_stop(),
                 };
             }
-            move_along(task.start, k, course.first_peg(), left)
+            let gathering = Gathering {
+                position: task.start,
+                discs: k,
+                target: course.first_peg(),
+            };
+            gathering.move_along(left)
         }
         Stage::Shifting(left) => {
             if left == 0 {
@@ -48,10 +44,20 @@ pub fn stage_move(task: &Task, course: Course, stage: Stage) -> DiscMove
                 };
             }
             let tower = [course.to; LIMIT];
-            move_along(&tower, k, course.from, left)
+            let shift = Gathering {
+                position: &tower,
+                discs: k,
+                target: course.from,
+            };
+            shift.move_along(left)
         }
         Stage::Spreading(done) => {
-            let back = move_along(task.goal, k, course.last_peg(), done + 1);
+            let gathering = Gathering {
+                position: task.goal,
+                discs: k,
+                target: course.last_peg(),
+            };
+            let back = gathering.move_along(done + 1);
             DiscMove {
                 disc: back.disc,
                 from: back.to,
@@ -80,22 +86,31 @@ pub fn stage_pegs(task: &Task, course: Course, stage: Stage) -> [u8; LIMIT]
     let k = course.disc;
     match stage {
         Stage::Gathering(left) => {
-            let pegs = gathering::pegs_along(start, k, course.first_peg(), left);
-            with_larger(pegs, start, k)
+            let gathering = Gathering {
+                position: start,
+                discs: k,
+                target: course.first_peg(),
+            };
+            with_larger(gathering.pegs_along(left), start, k)
         }
         Stage::Shifting(left) => {
             let tower = [course.to; LIMIT];
-            let mut pegs = with_larger(
-                gathering::pegs_along(&tower, k, course.from, left),
-                start,
-                k,
-            );
+            let shift = Gathering {
+                position: &tower,
+                discs: k,
+                target: course.from,
+            };
+            let mut pegs = with_larger(shift.pegs_along(left), start, k);
             pegs[k] = course.free;
             pegs
         }
         Stage::Spreading(done) => {
-            let pegs = gathering::pegs_along(task.goal, k, course.last_peg(), done);
-            with_larger(pegs, task.goal, k)
+            let gathering = Gathering {
+                position: task.goal,
+                discs: k,
+                target: course.last_peg(),
+            };
+            with_larger(gathering.pegs_along(done), task.goal, k)
         }
     }
 }

@@ -2,7 +2,7 @@
 use Rattle.std.specs.Prelude.{ℕ, zero, suc, ◌-◌, ◌^◌, ◌<◌, ◌≡◌, cond, List, eqb, ltb, leb, get_or, Option, Some, None}
 use Rattle.board.specs.Peg.{third}
 use Rattle.board.specs.Position.{peg}
-use Rattle.route.specs.declared.gathering.Passed.{Passed}
+use Rattle.route.specs.declared.passing.Passed.{Passed}
 
 -- The pegs when r moves of the gathering of discs 1 to k on peg j remain. Disc k, where it is not on j, has not moved while 2 ^ (k − 1)
 -- or more remain; after that it is on j, and the smaller ones are a tower that follows it.

@@ -1,12 +1,9 @@
--- `route::stage::stage_move` meets its contract: at each stage the gathering that is met in the middle is that of the rule. Assumes
--- nothing.
+-- At each stage the gathering that is met in the middle is that of the rule.
 use mathlib.Core.Path.{◌∙◌}
 use native.Mathlib.Numerals.{add-one}
 use native.Mathlib.Omega.{arith}
 use borrow.Author.Tests.{eq-eqb, ne_eqb}
-use Rattle.plan.proofs.Sound.{start_gatherable, goal_gatherable}
 use Rattle.route.specs.Inner.Stage.{stage_move}
-use Rattle.route.proofs.Courses.Plan.{first_peg_fits, last_peg_fits}
 use Rattle.route.proofs.Along.Towers.{tower_gatherable, tower_first}
 use Rattle.route.proofs.stage.stage_move.Goals as goal
 
@@ -16,28 +13,20 @@ unfolding stage_move
 returns-then-left-eq0 c =
     rw (c.in-Gathering.is, eq-eqb _ _ c.if-left-eq0.true, add-one, c.first_stop.ensures)
 
-pub move_along-requires : goal.move_along-requires
-move_along-requires c =
-    start_gatherable c.args.task.now.ends c.requires.course_fits.disc_there (rw c.first_peg.ensures (first_peg_fits c.requires.course_fits))
-
 -- The smaller discs are shifted: the last crossing.
 pub returns-then-left-eq0-2 : goal.returns-then-left-eq0-2
 unfolding stage_move
 returns-then-left-eq0-2 c =
     rw (c.in-Shifting.is, eq-eqb _ _ c.if-left-eq0-2.true, add-one)
 
-pub move_along-requires-in-Shifting : goal.move_along-requires-in-Shifting
-move_along-requires-in-Shifting c =
+pub invariant_of-shift : goal.invariant_of-shift
+invariant_of-shift c =
     let fits = c.requires.course_fits in
-    tower_gatherable _ _ _ fits.to_peg (omega arith) fits.from_peg
+    record { ready = tower_gatherable _ _ _ fits.to_peg (omega arith) fits.from_peg }
 
 pub overflow_add-done : goal.overflow_add-done
 overflow_add-done c =
     record { fits = rw c.in-Spreading.is at c.requires.stage_fits }
-
-pub move_along-back-requires : goal.move_along-back-requires
-move_along-back-requires c =
-    goal_gatherable c.args.task.now.ends c.requires.course_fits.disc_there (rw c.last_peg.ensures (last_peg_fits c.requires.course_fits))
 
 -- The smaller discs are being gathered.
 pub returns-else-left-eq0 : goal.returns-else-left-eq0

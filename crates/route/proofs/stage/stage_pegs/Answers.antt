@@ -1,5 +1,4 @@
--- `route::stage::stage_pegs` meets its contract: the discs below k are where the gathering has them, and the larger ones stay. Assumes
--- nothing.
+-- The discs below k are where the gathering has them, and the larger ones stay.
 use Prim.Native.Nat.{ℕ, ◌≤◌, ◌<◌}
 use mathlib.Core.Path.{◌≡◌, ◌∙◌, refl, sym}
 use mathlib.Core.Bool.{cond}
@@ -12,11 +11,9 @@ use lib.ListN.{length, get_or, set, replicate}
 use lib.Seq.{get_or-set_same, get_or-set_other}
 use Rattle.board.specs.Position.{peg}
 use Rattle.board.specs.Task.{limit}
-use Rattle.plan.proofs.Sound.{start_gatherable, goal_gatherable}
 use Rattle.route.specs.Inner.Along.{along, Along}
 use Rattle.route.specs.Inner.Stage.{stage_peg}
 use Rattle.route.proofs.Along.Along.{along_above}
-use Rattle.route.proofs.Courses.Plan.{first_peg_fits, last_peg_fits}
 use Rattle.route.proofs.Along.Towers.{tower_gatherable, tower_along}
 use Rattle.route.proofs.stage.stage_pegs.Goals as goal
 
@@ -43,25 +40,16 @@ joined_tower p b x f {k = k} {j} {r} d h hk hb e =
       ]
     ]
 
-pub pegs_along-pegs-requires : goal.pegs_along-pegs-requires
-pegs_along-pegs-requires c =
-    start_gatherable c.args.task.now.ends c.requires.disc_there (rw c.first_peg.ensures (first_peg_fits c.requires))
-
-pub pegs_along-requires : goal.pegs_along-requires
-pegs_along-requires c =
-    let fits = c.requires in
-    tower_gatherable _ _ _ fits.to_peg (omega arith) fits.from_peg
-
-pub pegs_along-pegs-requires-in-Spreading : goal.pegs_along-pegs-requires-in-Spreading
-pegs_along-pegs-requires-in-Spreading c =
-    goal_gatherable c.args.task.now.ends c.requires.disc_there (rw c.last_peg.ensures (last_peg_fits c.requires))
+pub invariant_of-shift : goal.invariant_of-shift
+invariant_of-shift c =
+    record { ready = tower_gatherable _ _ _ c.requires.to_peg (omega arith) c.requires.from_peg }
 
 -- The smaller discs are being gathered.
 pub returns-in-Gathering : goal.returns-in-Gathering
 unfolding stage_peg
 returns-in-Gathering c d l =
     rw (c.in-Gathering.is, ← c.first_peg.ensures)
-    (joined_along d c.pegs_along-pegs.ensures (c.with_larger.ensures d l))
+    (joined_along d c.pegs_along.ensures (c.with_larger.ensures d l))
 
 -- They are being shifted.
 pub returns-in-Shifting : goal.returns-in-Shifting
@@ -69,7 +57,7 @@ unfolding stage_peg
 returns-in-Shifting c d l =
     rw c.in-Shifting.is
     (joined_tower c.args.task.now.start.now c.with_larger-pegs.result c.args.course.to c.args.course.free d
-    c.pegs_along.ensures
+    c.pegs_along-in-Shifting.ensures
     (omega (arith, c.requires.disc_there, c.args.task.now.ends.within))
     (omega arith)
     (c.with_larger-pegs.ensures d l))
@@ -79,4 +67,4 @@ pub returns-in-Spreading : goal.returns-in-Spreading
 unfolding stage_peg
 returns-in-Spreading c d l =
     rw (c.in-Spreading.is, ← c.last_peg.ensures)
-    (joined_along d c.pegs_along-pegs-in-Spreading.ensures (c.with_larger-in-Spreading.ensures d (omega arith)))
+    (joined_along d c.pegs_along-in-Spreading.ensures (c.with_larger-in-Spreading.ensures d (omega arith)))

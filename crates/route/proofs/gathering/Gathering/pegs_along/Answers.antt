@@ -9,7 +9,7 @@ use lib.Seq.{get_or-set_same, get_or-set_other}
 use Rattle.board.proofs.Formed.{formed_pegs}
 use Rattle.route.specs.Inner.Along.{stacked}
 use Rattle.route.proofs.Along.Along.{along_pegs}
-use Rattle.route.proofs.gathering.pegs_along.Goals as goal
+use Rattle.route.proofs.gathering.Gathering.pegs_along.Goals as goal
 
 -- A list that has f from m + 1 on has f from m on once f m is written at m.
 from_less : {f : ℕ → ℕ} {k : ℕ} (a : List ℕ) (m x : ℕ) → m < length a → x ≡ f m
@@ -23,13 +23,13 @@ from_less a m x hm e old d l h =
 pub loop-m-init : goal.loop-m-init
 unfolding stacked
 loop-m-init c =
-    record { goal_peg = c.requires.target; tower_peg = tt; size = refl; left = λ d l. refl; done = λ d l h. absurd (omega arith) }
+    record { goal_peg = c.args.self.now.ready.target; tower_peg = tt; size = refl; left = λ d l. refl; done = λ d l h. absurd (omega arith) }
 
 pub pass-passed-requires : goal.pass-passed-requires
 pass-passed-requires c =
     record {
       gatherable =
-          record { there = omega arith; within = omega arith; formed = c.requires.formed; target = c.loop-m.invariant.goal_peg };
+          record { there = omega arith; within = omega arith; formed = c.args.self.now.ready.formed; target = c.loop-m.invariant.goal_peg };
       tower_peg = c.loop-m.invariant.tower_peg;
     }
 
@@ -55,5 +55,5 @@ returns c =
     let has = c.loop-m.invariant.done in
     record {
       is = λ d. has d (omega arith);
-      pegs = λ d h. rw (has d (omega arith) h) (along_pegs _ (formed_pegs _ c.requires.formed) _ _ _ c.requires.target d);
+      pegs = λ d h. rw (has d (omega arith) h) (along_pegs _ (formed_pegs _ c.args.self.now.ready.formed) _ _ _ c.args.self.now.ready.target d);
     }

@@ -7,15 +7,15 @@ use Rattle.board.proofs.Pegs.{third_same, third_peg}
 use Rattle.board.proofs.Formed.{formed_pegs}
 use Rattle.route.specs.Route.{gathering}
 use Rattle.route.proofs.Gatherings.FirstMove.{gathering_first_home, gathering_first_away}
-use Rattle.route.proofs.gathering.first_move.Goals as goal
+use Rattle.route.proofs.gathering.Gathering.first_move.Goals as goal
 
 pub loop-m-init : goal.loop-m-init
 loop-m-init c =
-    (c.requires.target, refl)
+    (c.args.self.now.ready.target, refl)
 
 pub third-next-requires : goal.third-next-requires
 third-next-requires c =
-    (c.loop-m.invariant.0, formed_pegs _ c.requires.formed _)
+    (c.loop-m.invariant.0, formed_pegs _ c.args.self.now.ready.formed _)
 
 -- Disc m is not on its target: it has the first move unless a smaller disc has.
 pub loop-m-preserved-then-at-goal : goal.loop-m-preserved-then-at-goal

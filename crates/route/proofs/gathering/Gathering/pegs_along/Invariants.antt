@@ -5,7 +5,7 @@ use lib.ListN.{length, get_or}
 use Rattle.board.specs.Position.{peg}
 use Rattle.board.specs.Task.{limit}
 use Rattle.route.specs.Inner.Along.{along, stacked, IsPeg}
-use Rattle.route.proofs.gathering.pegs_along.Given as goal
+use Rattle.route.proofs.gathering.Gathering.pegs_along.Given as goal
 
 abbrev pub invariant-loop-m : goal.invariant-loop-m
 invariant-loop-m l =
@@ -13,6 +13,6 @@ invariant-loop-m l =
       goal_peg : l.goal < 3;
       tower_peg : IsPeg l.tower;
       size : length l.pegs ≡ limit;
-      left : (d : ℕ) → d < l.m → along (stacked l.position l.tower) l.m l.goal l.rest d ≡ along (peg l.position) l.k l.target l.left d;
-      done : (d : ℕ) → l.m ≤ d → d < l.k → get_or l.pegs d 0 ≡ along (peg l.position) l.k l.target l.left d;
+      left : (d : ℕ) → d < l.m → along (stacked l.self.position.now l.tower) l.m l.goal l.rest d ≡ along (peg l.self.position.now) l.self.discs l.self.target l.left d;
+      done : (d : ℕ) → l.m ≤ d → d < l.self.discs → get_or l.pegs d 0 ≡ along (peg l.self.position.now) l.self.discs l.self.target l.left d;
     }

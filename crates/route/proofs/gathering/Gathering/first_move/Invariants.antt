@@ -4,7 +4,7 @@ use mathlib.Core.Path.{◌≡◌}
 use lib.ListN.{get_or}
 use Rattle.board.specs.Position.{peg}
 use Rattle.route.specs.Route.{gathering, move_at}
-use Rattle.route.proofs.gathering.first_move.Given as goal
+use Rattle.route.proofs.gathering.Gathering.first_move.Given as goal
 
 abbrev pub invariant-loop-m : goal.invariant-loop-m
-invariant-loop-m l = (l.goal < 3) × (get_or (gathering (peg l.position) l.m l.goal) 0 l.first ≡ move_at (gathering (peg l.position) l.k l.target) 0)
+invariant-loop-m l = (l.goal < 3) × (get_or (gathering (peg l.self.position.now) l.m l.goal) 0 l.first ≡ move_at (gathering (peg l.self.position.now) l.self.discs l.self.target) 0)

@@ -1,10 +1,10 @@
--- `route::gathering::pass` meets its contract: each of its returns is one of the three cases of a disc. Assumes nothing.
+-- `route::passing::pass` meets its contract: each of its returns is one of the three cases of a disc. Assumes nothing.
 use native.Mathlib.Omega.{arith}
 use Prim.Native.Nat.{◌≤◌}
 use Rattle.board.specs.Task.{limit}
 use Rattle.plan.proofs.Fits.{tower_more, tower_fits}
 use Rattle.route.proofs.Along.Passing.{stacked_pegs, pass_home, pass_before, pass_after}
-use Rattle.route.proofs.gathering.pass.Goals as goal
+use Rattle.route.proofs.passing.pass.Goals as goal
 
 pub third-next-requires : goal.third-next-requires
 third-next-requires c =

@@ -1,5 +1,4 @@
--- `route::stage::move_along` meets its contract: the pegs that are found are those along the gathering, and only those of the discs
--- that are gathered count. Assumes nothing.
+-- The pegs that are found are those along the gathering, and only those of the discs that are gathered count.
 use Prim.Native.Nat.{ℕ, ◌≤◌, ◌<◌}
 use mathlib.Core.Path.{◌≡◌}
 use mathlib.Core.List.{List}
@@ -11,7 +10,7 @@ use Rattle.board.proofs.Formed.{pegs_formed}
 use Rattle.plan.specs.Inner.Sound.{Gatherable}
 use Rattle.route.specs.Inner.Along.{Along, along}
 use Rattle.route.proofs.Gatherings.Gathering.{gathering_cong}
-use Rattle.route.proofs.stage.move_along.Goals as goal
+use Rattle.route.proofs.gathering.Gathering.move_along.Goals as goal
 
 module _ {p a : List ℕ} {k j r : ℕ} (h : Along p k j r a) where
   -- The first k bytes have the pegs along the gathering.
@@ -29,13 +28,9 @@ module _ {p a : List ℕ} {k j r : ℕ} (h : Along p k j r a) where
         target = g.target;
       }
 
-pub slice_bounds-first_move-end : goal.slice_bounds-first_move-end
-slice_bounds-first_move-end c =
-    simp length-take (omega arith)
-
-pub first_move-requires : goal.first_move-requires
-first_move-requires c =
-    front_gatherable c.pegs_along-pegs.ensures (omega arith) c.requires
+pub invariant_of-there : goal.invariant_of-there
+invariant_of-there c =
+    record { ready = front_gatherable c.pegs_along-pegs.ensures (omega arith) c.args.self.now.ready }
 
 pub returns : goal.returns
 returns c =
