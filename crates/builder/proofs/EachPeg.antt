@@ -1,12 +1,9 @@
 -- Three numbers, one for each peg.
 use Prim.Native.Nat.{ℕ, ◌<◌}
-use mathlib.Core.Bool.{◌&&◌, and-true}
 use mathlib.Core.List.{List, [], ◌∷◌}
 use mathlib.Core.Path.{◌≡◌, refl}
 use native.Mathlib.Omega.{arith}
-use lib.Dec.{eqb}
 use lib.ListN.{length, get_or}
-use Rattle.board.specs.Fewest.{same}
 use Rattle.plan.proofs.Three.{pegs, each_peg_lem}
 use Rattle.builder.specs.Lengths.{each_peg}
 
@@ -39,14 +36,3 @@ agree f g x y z j h =
 -- The number for peg i of three.
 pub each_at : (f : ℕ → ℕ) (i : ℕ) → i < 3 → get_or (each_peg f) i 0 ≡ f i
 each_at f = each (λ i. get_or (each_peg f) i 0 ≡ f i) refl refl refl
-
--- Three lengths are the same where each is.
-pub same_three : (l m : List ℕ) → length l ≡ 3 → length m ≡ 3
-    → same l m ≡ (eqb (get_or l 0 0) (get_or m 0 0) && (eqb (get_or l 1 0) (get_or m 1 0) && eqb (get_or l 2 0) (get_or m 2 0)))
-unfolding same
-same_three l m e f =
-    of_three (λ l. same l m ≡ (eqb (get_or l 0 0) (get_or m 0 0) && (eqb (get_or l 1 0) (get_or m 1 0) && eqb (get_or l 2 0) (get_or m 2 0))))
-    (λ a b c. of_three (λ m. same (a ∷ b ∷ c ∷ []) m ≡ (eqb a (get_or m 0 0) && (eqb b (get_or m 1 0) && eqb c (get_or m 2 0))))
-    (λ x y z. rw (and-true (eqb c z)))
-    m f)
-    l e

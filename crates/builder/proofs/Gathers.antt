@@ -14,7 +14,7 @@ use Rattle.board.proofs.Pegs.{third_peg}
 use Rattle.plan.specs.Gather.{gather}
 use Rattle.plan.proofs.Gathering.{Pegs, gather_append, gather_bound}
 use Rattle.builder.specs.Lengths.{gathers, share, lengths_with, lengths_without}
-use Rattle.builder.proofs.EachPeg.{each, alike, agree, each_at}
+use Rattle.builder.proofs.EachPeg.{each, of_three, alike, agree, each_at}
 
 -- The length of a position for target i is Gather's.
 pub gathers_at : (p : List ℕ) (i : ℕ) → i < 3 → get_or (gathers p) i 0 ≡ gather (peg p) (length p) i
@@ -61,6 +61,26 @@ without_with d =
 -- Two lengths exchanged, those of the pegs other than j, each changed by f.
 abbrev pub exchanged : (ℕ → ℕ) → ℕ → List ℕ → List ℕ
 exchanged f j l = set (set l ((j + 1) % 3) (f (get_or l ((j + 2) % 3) 0))) ((j + 2) % 3) (f (get_or l ((j + 1) % 3) 0))
+
+-- m is three lengths so made of l: that of j, that of the peg after it, and that of the last.
+pub record Exchanged (f : ℕ → ℕ) (j : ℕ) (l m : List ℕ) : Type 0 where
+  pub three : length m ≡ 3
+  pub own : get_or m j 0 ≡ get_or l j 0
+  pub next : get_or m ((j + 1) % 3) 0 ≡ f (get_or l ((j + 2) % 3) 0)
+  pub last : get_or m ((j + 2) % 3) 0 ≡ f (get_or l ((j + 1) % 3) 0)
+
+-- They are the only ones.
+pub exchanged_is : (f : ℕ → ℕ) (j : ℕ) → j < 3 → (l m : List ℕ) → length l ≡ 3 → Exchanged f j l m → m ≡ exchanged f j l
+exchanged_is f j h l m three e =
+    of_three (λ l. Exchanged f j l m → m ≡ exchanged f j l)
+    (λ a b c. of_three (λ m. Exchanged f j (a ∷ b ∷ c ∷ []) m → m ≡ exchanged f j (a ∷ b ∷ c ∷ []))
+    (λ x y z. each (λ j. Exchanged f j (a ∷ b ∷ c ∷ []) (x ∷ y ∷ z ∷ []) → x ∷ y ∷ z ∷ [] ≡ exchanged f j (a ∷ b ∷ c ∷ []))
+    (λ e. alike e.own e.next e.last)
+    (λ e. alike e.last e.own e.next)
+    (λ e. alike e.next e.last e.own)
+    j h)
+    m e.three)
+    l three e
 
 -- Exchanged and 2 ^ d more, they are those with disc d + 1 on j.
 pub exchanged_with : (d j : ℕ) → j < 3 → (l : List ℕ) → length l ≡ 3 → exchanged (λ k. k + 2 ^ d) j l ≡ lengths_with l d j

@@ -1,8 +1,8 @@
 // Add and Remove: the largest disc slid under the tower, and taken out again.
-ghost use Rattle.std.specs.Prelude.{◌≡◌};
+ghost use Rattle.std.specs.Prelude.{◌≡◌, MatchResult, Ok, Err};
 ghost use Rattle.board.specs.Refusal.{reply_of};
-ghost use Rattle.board.specs.Reply.{pass};
-ghost use Rattle.builder.specs.Answer.{add_answer, add_leaves, remove_answer, remove_leaves, with_disc, without_disc};
+ghost use Rattle.builder.specs.Answer.{add_answer, add_leaves, remove_answer, remove_leaves};
+ghost use Rattle.builder.specs.Inner.Made.{made_by_add, made_by_remove};
 
 use crate::lengths::{with_disc, without_disc};
 use crate::record::Builder;
@@ -16,7 +16,22 @@ pub struct Built {
     pub builder: Builder,
 }
 
+impl Built {
+    // The answer of a call, and what it leaves: the builder that it makes, or where it is refused the one that stood before.
+    fn of(before: Builder, made: Result<Builder, Refusal>) -> Built
+        ensures { MatchResult made
+            (λ b. (result.verdict ≡ Ok tt) × (result.builder ≡ b))
+            (λ why. (result.verdict ≡ Err why) × (result.builder ≡ before)) }
+    {
+        Built {
+            verdict: made.map(|_| ()),
+            builder: made.unwrap_or(before),
+        }
+    }
+}
+
 // The first fault of an addition.
+#[tactic(auto, using(std::proofs::lemmas::Bool::Decides::nat_tests), unfolding(crate::specs::Answer::add_answer))]
 fn add_verdict(b: Builder, peg: u8) -> Result<(), Refusal>
     ensures { reply_of result ≡ add_answer b peg }
 {
@@ -33,39 +48,27 @@ fn add_verdict(b: Builder, peg: u8) -> Result<(), Refusal>
 }
 
 // The builder with one disc more.
-fn added(b: Builder, peg: u8) -> Builder
-    requires { add_answer b peg ≡ pass }
-    ensures { result ≡ with_disc b peg }
+#[tactic(auto, using(crate::proofs::Calls::add_accepted), unfolding(crate::specs::Answer::with_disc))]
+fn added(mut b: Builder, peg: u8) -> Result<Builder, Refusal>
+    ensures { reply_of result ≡ made_by_add b peg }
 {
-    let n = b.n;
-    let mut position = b.position;
-    position[n] = peg;
-    let lengths = b.lengths;
-    let with = with_disc(lengths, n, peg);
-    Builder {
-        n: n + 1,
-        position,
-        lengths: with,
-    }
+    add_verdict(b, peg)?;
+    b.position[b.n] = peg;
+    with_disc(&mut b.lengths, b.n, peg);
+    b.n += 1;
+    Ok(b)
 }
 
 // Add: a new largest disc on a peg. Refuses with 10, 2 and 3, and the builder is then as it was.
+#[tactic(auto, unfolding(crate::specs::Answer::add_leaves))]
 pub fn add(builder: Builder, peg: u8) -> Built
     ensures { (reply_of result.verdict ≡ add_answer builder peg) × (result.builder ≡ add_leaves builder peg) }
 {
-    match add_verdict(builder, peg) {
-        Err(why) => Built {
-            verdict: Err(why),
-            builder,
-        },
-        Ok(()) => Built {
-            verdict: Ok(()),
-            builder: added(builder, peg),
-        },
-    }
+    Built::of(builder, added(builder, peg))
 }
 
 // The first fault of a removal.
+#[tactic(auto, using(std::proofs::lemmas::Bool::Decides::nat_tests), unfolding(crate::specs::Answer::remove_answer))]
 fn remove_verdict(b: Builder) -> Result<(), Refusal>
     ensures { reply_of result ≡ remove_answer b }
 {
@@ -79,35 +82,22 @@ fn remove_verdict(b: Builder) -> Result<(), Refusal>
 }
 
 // The builder with its largest disc gone.
-fn removed(b: Builder) -> Builder
-    requires { remove_answer b ≡ pass }
-    ensures { result ≡ without_disc b }
+#[tactic(auto, using(crate::proofs::Calls::remove_accepted, crate::proofs::Holding::sound_shrinks), unfolding(crate::specs::Answer::without_disc))]
+fn removed(mut b: Builder) -> Result<Builder, Refusal>
+    ensures { reply_of result ≡ made_by_remove b }
 {
-    let d = b.n - 1;
-    let mut position = b.position;
-    let peg = position[d];
-    position[d] = 0;
-    let lengths = b.lengths;
-    let without = without_disc(lengths, d, peg);
-    Builder {
-        n: d,
-        position,
-        lengths: without,
-    }
+    remove_verdict(b)?;
+    b.n -= 1;
+    let peg = b.position[b.n];
+    b.position[b.n] = 0;
+    without_disc(&mut b.lengths, b.n, peg);
+    Ok(b)
 }
 
 // Remove: the largest disc is taken out. Refuses with 10 and 19, and the builder is then as it was.
+#[tactic(auto, unfolding(crate::specs::Answer::remove_leaves))]
 pub fn remove(builder: Builder) -> Built
     ensures { (reply_of result.verdict ≡ remove_answer builder) × (result.builder ≡ remove_leaves builder) }
 {
-    match remove_verdict(builder) {
-        Err(why) => Built {
-            verdict: Err(why),
-            builder,
-        },
-        Ok(()) => Built {
-            verdict: Ok(()),
-            builder: removed(builder),
-        },
-    }
+    Built::of(builder, removed(builder))
 }

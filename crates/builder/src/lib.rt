@@ -1,4 +1,4 @@
-// Tasks built up disc by disc (document 02, CR 9): a position and its three gather lengths, brought up to date with each largest disc.
+// Tasks built up disc by disc: a position and its three gather lengths, brought up to date with each largest disc.
 #![tactic(auto)]
 
 mod building;

@@ -2,7 +2,7 @@
 ghost use Rattle.std.specs.Prelude.{◌≡◌};
 ghost use Rattle.builder.specs.Builder.{sound};
 
-use crate::lengths::{lengths_of, same_lengths};
+use crate::lengths::lengths_of;
 use crate::record::Builder;
 use board::{LIMIT, holds_position};
 
@@ -10,15 +10,5 @@ use board::{LIMIT, holds_position};
 pub fn is_sound(b: Builder) -> bool
     ensures { result ≡ sound b }
 {
-    let n = b.n;
-    if LIMIT < n {
-        return false;
-    }
-    let position = b.position;
-    if !holds_position(n, position) {
-        return false;
-    }
-    let lengths = b.lengths;
-    let own = lengths_of(n, position);
-    same_lengths(lengths, own)
+    b.n <= LIMIT && holds_position(b.n, b.position) && b.lengths == lengths_of(b.n, b.position)
 }

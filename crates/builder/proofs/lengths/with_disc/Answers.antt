@@ -1,10 +1,20 @@
--- `builder::lengths::with_disc` meets its contract: the two stores exchange the lengths of the other pegs, each 2 ^ d more. Assumes nothing.
-use Rattle.std.proofs.Common.{◌≡◌, length, rules, arith}
+-- The exchange and the two sums are the definition's three lines.
+use Rattle.std.proofs.Common.{◌+◌, ◌^◌, ◌∙◌, arith}
+use Rattle.std.proofs.lemmas.Grind.{elements}
 use Rattle.plan.proofs.Fits.{shl_power}
-use Rattle.builder.proofs.Gathers.{exchanged_with}
+use Rattle.builder.proofs.Gathers.{exchanged_is, exchanged_with}
 use Rattle.builder.proofs.lengths.with_disc.Goals as goal
 
 pub returns : goal.returns
 returns c =
-    let three : length c.args.lengths ≡ 3 = search rules in
-    rw (shl_power c.args.d (omega (arith, c.requires.within))) (exchanged_with c.args.d c.args.peg c.requires.target c.args.lengths three)
+    let l = c.args.lengths.now in
+    let d = c.args.d in
+    let far = shl_power d (omega (arith, c.requires.within)) in
+    exchanged_is (λ k. k + 2 ^ d) _ c.requires.target l _ c.told-lengths
+    (record {
+      three = grind (arith, elements);
+      own = grind (arith, elements);
+      next = grind (arith, elements);
+      last = grind (arith, elements);
+    })
+    ∙ exchanged_with d _ c.requires.target l c.told-lengths

@@ -1,11 +1,20 @@
--- `builder::lengths::without_disc` meets its contract: the two stores exchange the lengths of the other pegs, each 2 ^ d less. Assumes
--- nothing.
-use Rattle.std.proofs.Common.{◌≡◌, length, rules, arith}
+-- The exchange and the two differences are the definition's three lines.
+use Rattle.std.proofs.Common.{◌-◌, ◌^◌, ◌∙◌, arith}
+use Rattle.std.proofs.lemmas.Grind.{elements}
 use Rattle.plan.proofs.Fits.{shl_power}
-use Rattle.builder.proofs.Gathers.{exchanged_without}
+use Rattle.builder.proofs.Gathers.{exchanged_is, exchanged_without}
 use Rattle.builder.proofs.lengths.without_disc.Goals as goal
 
 pub returns : goal.returns
 returns c =
-    let three : length c.args.lengths ≡ 3 = search rules in
-    rw (shl_power c.args.d (omega (arith, c.requires.within))) (exchanged_without c.args.d c.args.peg c.requires.target c.args.lengths three)
+    let l = c.args.lengths.now in
+    let d = c.args.d in
+    let far = shl_power d (omega (arith, c.requires.within)) in
+    exchanged_is (λ k. k - 2 ^ d) _ c.requires.target l _ c.told-lengths
+    (record {
+      three = grind (arith, elements);
+      own = grind (arith, elements);
+      next = grind (arith, elements);
+      last = grind (arith, elements);
+    })
+    ∙ exchanged_without d _ c.requires.target l c.told-lengths

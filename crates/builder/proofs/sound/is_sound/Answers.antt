@@ -1,33 +1,32 @@
--- `builder::sound::is_sound` meets its contract: at each return the tests passed on the way give the answer. Assumes nothing.
-use Rattle.std.proofs.Common.{◌≡◌, sym, length, rules}
-use borrow.Author.Tests.{eq-eqb, le-leb, lt-leb}
-use Rattle.board.specs.Task.{limit}
+-- The tests passed on the way to each return are those of the definition.
+use Rattle.std.proofs.Common.{◌≡◌, ℕ, List, [], ◌∷◌, eqb, arith, refl, ap}
+use mathlib.Core.Bool.{◌&&◌}
+use Rattle.std.specs.Cmp.Lexicographic.{pointwise}
+use Rattle.std.proofs.lemmas.Bool.Decides.{nat_tests}
+use Rattle.board.specs.Fewest.{same}
 use Rattle.board.proofs.Arrays.{holds_exactly, held_formed}
 use Rattle.builder.specs.Builder.{sound}
 use Rattle.builder.proofs.sound.is_sound.Goals as goal
 
--- The discs are too many.
-pub returns-then-n-gt-LIMIT : goal.returns-then-n-gt-LIMIT
-unfolding sound
-returns-then-n-gt-LIMIT c =
-    let sized : length c.args.b.position ≡ limit = search rules in rw (eq-eqb _ _ sized, lt-leb _ _ c.if-n-gt-LIMIT.true)
+-- Two arrays are compared number by number.
+same_pointwise : (p q : List ℕ) → same p q ≡ pointwise eqb p q
+unfolding same
+same_pointwise [] [] = refl
+same_pointwise [] (c ∷ q) = refl
+same_pointwise (b ∷ p) [] = refl
+same_pointwise (b ∷ p) (c ∷ q) = ap (λ t. eqb b c && t) (same_pointwise p q)
 
--- The array holds no position.
-pub returns-then-not-holds_position : goal.returns-then-not-holds_position
-unfolding sound
-returns-then-not-holds_position c =
-    let sized : length c.args.b.position ≡ limit = search rules in
-    rw (eq-eqb _ _ sized, le-leb _ _ c.if-n-gt-LIMIT.false, ← c.if-not-holds_position.ensures)
-
--- It holds one.
-pub lengths_of-own-requires-clause-well_formed : goal.lengths_of-own-requires-clause-well_formed
-lengths_of-own-requires-clause-well_formed c =
-    held_formed _ _ ((holds_exactly _ _).0 (sym c.if-not-holds_position.ensures))
+-- The array holds a position.
+pub lengths_of-requires-clause-well_formed : goal.lengths_of-requires-clause-well_formed
+lengths_of-requires-clause-well_formed c =
+    held_formed _ _ ((holds_exactly _ _).0 (grind (arith, nat_tests)))
 
 -- The lengths decide.
-pub returns : goal.returns
+pub returns-then-holds_position : goal.returns-then-holds_position
 unfolding sound
-returns c =
-    let sized : length c.args.b.position ≡ limit = search rules in
-    rw (eq-eqb _ _ sized, le-leb _ _ c.if-n-gt-LIMIT.false, ← c.if-not-holds_position.ensures)
-    (rw c.lengths_of-own.ensures at c.same_lengths.ensures)
+returns-then-holds_position c = grind (arith, nat_tests, same_pointwise)
+
+-- It holds none.
+pub returns-else-holds_position : goal.returns-else-holds_position
+unfolding sound
+returns-else-holds_position c = grind (arith, nat_tests)
