@@ -1,105 +1,97 @@
-// Batch (document 02, CR 5): tasks of documents 01 and 02 end to end, a byte above 2, entries beyond the tasks, and faulty calls.
-use crate::{boards, lines};
+// Batch: tasks end to end, a byte above 2, entries beyond the tasks, and faulty calls.
+use crate::boards::tower_task;
+use crate::lines;
 use std::io;
 
 // [0, 0] to [2, 2], [1, 0] to [0, 1], still.
+const THREE: &[u8] = b"\x00\x00\x02\x02\x01\x00\x00\x01\x02\x02\x02\x02";
+
 fn tasks(rt: &impl Print) -> io::Result<()> {
-    let three = b"\x00\x00\x02\x02\x01\x00\x00\x01\x02\x02\x02\x02";
-    lines::batch(rt, b"2 discs, 3 tasks, 3 entries", 2, three, 3)?;
-    lines::batch(rt, b"2 discs, 3 tasks, 5 entries", 2, three, 5)?;
-    lines::batch(rt, b"1 disc, 6 tasks, 6 entries", 1, three, 6)?;
-    lines::batch(rt, b"3 discs, 2 tasks, 2 entries", 3, three, 2)?;
-    lines::batch(rt, b"6 discs, 1 task, 2 entries", 6, three, 2)
+    for (name, n, room) in [
+        ("2 discs, 3 tasks, 3 entries", 2, 3),
+        ("2 discs, 3 tasks, 5 entries", 2, 5),
+        ("1 disc, 6 tasks, 6 entries", 1, 6),
+        ("3 discs, 2 tasks, 2 entries", 3, 2),
+        ("6 discs, 1 task, 2 entries", 6, 2),
+    ] {
+        lines::batch(rt, name, n, THREE, room)?;
+    }
+    Ok(())
 }
 
 // Only the entry of its own task changes.
 fn bytes_above_two(rt: &impl Print) -> io::Result<()> {
-    lines::batch(
-        rt,
-        b"byte 3 in the first of 3",
-        2,
-        b"\x03\x00\x02\x02\x01\x00\x00\x01\x02\x02\x02\x02",
-        3,
-    )?;
-    lines::batch(
-        rt,
-        b"byte 255 in the second of 3",
-        2,
-        b"\x00\x00\x02\x02\x01\x00\x00\xff\x02\x02\x02\x02",
-        3,
-    )?;
-    lines::batch(
-        rt,
-        b"byte 3 in the last of 3",
-        2,
-        b"\x00\x00\x02\x02\x01\x00\x00\x01\x02\x02\x02\x03",
-        3,
-    )?;
-    lines::batch(rt, b"nothing but byte 3", 2, &[3u8; 12], 4)
+    let tasks: [(&str, &[u8], usize); 4] = [
+        (
+            "byte 3 in the first of 3",
+            b"\x03\x00\x02\x02\x01\x00\x00\x01\x02\x02\x02\x02",
+            3,
+        ),
+        (
+            "byte 255 in the second of 3",
+            b"\x00\x00\x02\x02\x01\x00\x00\xff\x02\x02\x02\x02",
+            3,
+        ),
+        (
+            "byte 3 in the last of 3",
+            b"\x00\x00\x02\x02\x01\x00\x00\x01\x02\x02\x02\x03",
+            3,
+        ),
+        ("nothing but byte 3", &[3; 12], 4),
+    ];
+    for (name, tasks, room) in tasks {
+        lines::batch(rt, name, 2, tasks, room)?;
+    }
+    Ok(())
 }
 
-// All discs from 0 to 2; nothing moves.
-fn tall(rt: &impl Print) -> io::Result<()> {
-    lines::batch(
-        rt,
-        b"60 discs, 1 task, 2 entries",
-        60,
-        &boards::tower_task(),
-        2,
-    )?;
-    lines::batch(rt, b"60 discs, 2 tasks, 2 entries", 60, &[1u8; 240], 2)
+// All discs from 0 to 2; nothing moves; and no tasks.
+fn others(rt: &impl Print, tower: &[u8]) -> io::Result<()> {
+    let cases: [(&str, u64, &[u8], usize); 6] = [
+        ("60 discs, 1 task, 2 entries", 60, tower, 2),
+        ("60 discs, 2 tasks, 2 entries", 60, &[1; 240], 2),
+        ("2 discs, no tasks, no entries", 2, b"", 0),
+        ("2 discs, no tasks, 1 entry", 2, b"", 1),
+        ("no discs, no bytes, no entries", 0, b"", 0),
+        ("no discs, no bytes, 1 entry", 0, b"", 1),
+    ];
+    for (name, n, tasks, room) in cases {
+        lines::batch(rt, name, n, tasks, room)?;
+    }
+    Ok(())
 }
 
-fn no_tasks(rt: &impl Print) -> io::Result<()> {
-    lines::batch(rt, b"2 discs, no tasks, no entries", 2, b"", 0)?;
-    lines::batch(rt, b"2 discs, no tasks, 1 entry", 2, b"", 1)?;
-    lines::batch(rt, b"no discs, no bytes, no entries", 0, b"", 0)?;
-    lines::batch(rt, b"no discs, no bytes, 1 entry", 0, b"", 1)
-}
-
-// 2; 13; 6.
+// 2; 13; 6; and several faults.
 fn refused(rt: &impl Print) -> io::Result<()> {
-    lines::batch(rt, b"61 discs", 61, &[0u8; 122], 1)?;
-    lines::batch(rt, b"2^63 discs, no bytes", 9223372036854775808, b"", 1)?;
-    lines::batch(
-        rt,
-        b"2^63 + 1 discs, 2 bytes",
-        9223372036854775809,
-        b"\x00\x01",
-        1,
-    )?;
-    lines::batch(rt, b"2 discs, 1 byte too few", 2, &[0u8; 7], 2)?;
-    lines::batch(rt, b"2 discs, 1 byte too many", 2, &[0u8; 9], 3)?;
-    lines::batch(rt, b"2 discs, half a task too many", 2, &[0u8; 10], 3)?;
-    lines::batch(rt, b"no discs, 1 byte", 0, &[0u8; 1], 1)?;
-    lines::batch(rt, b"no discs, 4 bytes", 0, &[0u8; 4], 1)?;
-    lines::batch(rt, b"2 discs, 2 tasks, 1 entry", 2, &[0u8; 8], 1)?;
-    lines::batch(rt, b"2 discs, 1 task, no entries", 2, &[0u8; 4], 0)
-}
-
-fn several(rt: &impl Print) -> io::Result<()> {
-    lines::batch(
-        rt,
-        b"61 discs, odd length, byte 3, no entries",
-        61,
-        &[3u8; 7],
-        0,
-    )?;
-    lines::batch(
-        rt,
-        b"2 discs, odd length, byte 3, no entries",
-        2,
-        &[3u8; 7],
-        0,
-    )?;
-    lines::batch(rt, b"2 discs, byte 3, no entries", 2, &[3u8; 8], 0)
+    let cases: [(&str, u64, &[u8], usize); 13] = [
+        ("61 discs", 61, &[0; 122], 1),
+        ("2^63 discs, no bytes", 9223372036854775808, b"", 1),
+        (
+            "2^63 + 1 discs, 2 bytes",
+            9223372036854775809,
+            b"\x00\x01",
+            1,
+        ),
+        ("2 discs, 1 byte too few", 2, &[0; 7], 2),
+        ("2 discs, 1 byte too many", 2, &[0; 9], 3),
+        ("2 discs, half a task too many", 2, &[0; 10], 3),
+        ("no discs, 1 byte", 0, &[0; 1], 1),
+        ("no discs, 4 bytes", 0, &[0; 4], 1),
+        ("2 discs, 2 tasks, 1 entry", 2, &[0; 8], 1),
+        ("2 discs, 1 task, no entries", 2, &[0; 4], 0),
+        ("61 discs, odd length, byte 3, no entries", 61, &[3; 7], 0),
+        ("2 discs, odd length, byte 3, no entries", 2, &[3; 7], 0),
+        ("2 discs, byte 3, no entries", 2, &[3; 8], 0),
+    ];
+    for (name, n, tasks, room) in cases {
+        lines::batch(rt, name, n, tasks, room)?;
+    }
+    Ok(())
 }
 
 pub fn all(rt: &impl Print) -> io::Result<()> {
     tasks(rt)?;
     bytes_above_two(rt)?;
-    tall(rt)?;
-    no_tasks(rt)?;
-    refused(rt)?;
-    several(rt)
+    others(rt, &tower_task())?;
+    refused(rt)
 }

@@ -1,124 +1,115 @@
-// The checker (document 02, CR 7): both routes of a tie, longer lists, each refusal at its edge, and lists with several faults.
-use crate::{boards, lines};
+// The checker: both routes of a tie, longer lists, each refusal at its edge, and lists with several faults.
+use crate::boards::{DETOUR, SIX, TIE, tower_task};
+use crate::lines;
 use std::io;
 
-// [1, 0] to [0, 1], a tie of two routes of three moves.
-fn tie(rt: &impl Print, task: &[u8]) -> io::Result<()> {
-    lines::check(rt, b"tie, BC AB CA", task, b"BCABCA")?;
-    lines::check(rt, b"tie, AC BA CB", task, b"ACBACB")?;
-    lines::check_run(rt, b"tie, what Run writes of route 0", task, 0)?;
-    lines::check_run(rt, b"tie, what Run writes of route 1", task, 1)
-}
-
-// Legal lists that are no shortest route.
-fn longer(rt: &impl Print, task: &[u8]) -> io::Result<()> {
-    lines::check(rt, b"tie, one move late: BA AC AB CA", task, b"BAACABCA")?;
-    lines::check(rt, b"tie, past the goal and back", task, b"BCABCAABBA")?;
-    lines::check(rt, b"tie, the goal is left at the end", task, b"BCABCAAB")?;
-    lines::check(rt, b"tie, one move too few", task, b"BCAB")?;
-    lines::check(rt, b"tie, three moves elsewhere", task, b"BCABCB")?;
-    lines::check(rt, b"tie, no moves", task, b"")
-}
+// Legal lists on the tie that are no shortest route.
+const LONGER: &[(&str, &[u8])] = &[
+    ("tie, one move late: BA AC AB CA", b"BAACABCA"),
+    ("tie, past the goal and back", b"BCABCAABBA"),
+    ("tie, the goal is left at the end", b"BCABCAAB"),
+    ("tie, one move too few", b"BCAB"),
+    ("tie, three moves elsewhere", b"BCABCB"),
+    ("tie, no moves", b""),
+];
 
 // 14: odd length or a byte other than A, B, C.
-fn bytes(rt: &impl Print, task: &[u8]) -> io::Result<()> {
-    lines::check(rt, b"tie, the last letter missing", task, b"BCABC")?;
-    lines::check(rt, b"tie, one letter too many", task, b"BCABCAA")?;
-    lines::check(rt, b"tie, one letter alone", task, b"B")?;
-    lines::check(rt, b"tie, lower case", task, b"bcabca")?;
-    lines::check(rt, b"tie, the last letter lower case", task, b"BCABCa")?;
-    lines::check(rt, b"tie, the byte before A, first", task, b"@CABCA")?;
-    lines::check(rt, b"tie, the byte after C, last", task, b"BCABCD")?;
-    lines::check(rt, b"tie, byte 0", task, b"BC\x00BCA")?;
-    lines::check(rt, b"tie, byte 255", task, b"BCAB\xffA")?;
-    lines::check(rt, b"tie, spaces", task, b"BC AB CA")
-}
+const BYTES: &[(&str, &[u8])] = &[
+    ("tie, the last letter missing", b"BCABC"),
+    ("tie, one letter too many", b"BCABCAA"),
+    ("tie, one letter alone", b"B"),
+    ("tie, lower case", b"bcabca"),
+    ("tie, the last letter lower case", b"BCABCa"),
+    ("tie, the byte before A, first", b"@CABCA"),
+    ("tie, the byte after C, last", b"BCABCD"),
+    ("tie, byte 0", b"BC\x00BCA"),
+    ("tie, byte 255", b"BCAB\xffA"),
+    ("tie, spaces", b"BC AB CA"),
+];
 
 // 15: some move is not legal at its turn.
-fn illegal(rt: &impl Print, task: &[u8]) -> io::Result<()> {
-    lines::check(rt, b"tie, from equals to, first", task, b"BBABCA")?;
-    lines::check(rt, b"tie, from an empty peg, first", task, b"CAABCA")?;
-    lines::check(rt, b"tie, onto a smaller disc, first", task, b"ABABCA")?;
-    lines::check(rt, b"tie, from equals to, last", task, b"BCABAA")?;
-    lines::check(rt, b"tie, from an empty peg, last", task, b"BCABAC")?;
-    lines::check(rt, b"tie, onto a smaller disc, last", task, b"BCABBC")?;
-    lines::check(
-        rt,
-        b"tie, an illegal move after the goal",
-        task,
-        b"BCABCABA",
-    )?;
-    lines::check(rt, b"tie, and a legal one after it", task, b"BCABCABAAB")
-}
+const ILLEGAL: &[(&str, &[u8])] = &[
+    ("tie, from equals to, first", b"BBABCA"),
+    ("tie, from an empty peg, first", b"CAABCA"),
+    ("tie, onto a smaller disc, first", b"ABABCA"),
+    ("tie, from equals to, last", b"BCABAA"),
+    ("tie, from an empty peg, last", b"BCABAC"),
+    ("tie, onto a smaller disc, last", b"BCABBC"),
+    ("tie, an illegal move after the goal", b"BCABCABA"),
+    ("tie, and a legal one after it", b"BCABCABAAB"),
+];
 
 // 14 before 15 before 16.
-fn several(rt: &impl Print, task: &[u8]) -> io::Result<()> {
-    lines::check(rt, b"tie, illegal first, odd length", task, b"BBABC")?;
-    lines::check(rt, b"tie, illegal first, lower case last", task, b"BBABCa")?;
-    lines::check(
-        rt,
-        b"tie, past the goal, lower case last",
-        task,
-        b"BCABCAABBa",
-    )?;
-    lines::check(rt, b"tie, illegal last, goal not reached", task, b"BABB")
+const SEVERAL: &[(&str, &[u8])] = &[
+    ("tie, illegal first, odd length", b"BBABC"),
+    ("tie, illegal first, lower case last", b"BBABCa"),
+    ("tie, past the goal, lower case last", b"BCABCAABBa"),
+    ("tie, illegal last, goal not reached", b"BABB"),
+];
+
+// The lines of several lists on one task.
+fn checks(rt: &impl Print, task: &[u8], lists: &[(&str, &[u8])]) -> io::Result<()> {
+    for (name, letters) in lists {
+        lines::check(rt, name, task, letters)?;
+    }
+    Ok(())
+}
+
+fn tie(rt: &impl Print) -> io::Result<()> {
+    lines::check(rt, "tie, BC AB CA", TIE, b"BCABCA")?;
+    lines::check(rt, "tie, AC BA CB", TIE, b"ACBACB")?;
+    lines::check_run(rt, "tie, what Run writes of route 0", TIE, 0)?;
+    lines::check_run(rt, "tie, what Run writes of route 1", TIE, 1)?;
+    checks(rt, TIE, LONGER)?;
+    checks(rt, TIE, BYTES)?;
+    checks(rt, TIE, ILLEGAL)?;
+    checks(rt, TIE, SEVERAL)
 }
 
 // Task faults come first.
 fn task_refused(rt: &impl Print) -> io::Result<()> {
-    lines::check(rt, b"task of odd length, byte 3", b"\x00\x00\x03", b"a")?;
-    lines::check(rt, b"61 discs, byte 3", &[3u8; 122], b"a")?;
-    lines::check(rt, b"byte 3", b"\x00\x03", b"a")
+    lines::check(rt, "task of odd length, byte 3", b"\x00\x00\x03", b"a")?;
+    lines::check(rt, "61 discs, byte 3", &[3; 122], b"a")?;
+    lines::check(rt, "byte 3", b"\x00\x03", b"a")
 }
 
-// One disc, a detour, and six discs.
-fn others(rt: &impl Print, detour: &[u8], six: &[u8]) -> io::Result<()> {
-    lines::check(rt, b"[0] to [2], AC", b"\x00\x02", b"AC")?;
-    lines::check(rt, b"[0] to [2], AB BC", b"\x00\x02", b"ABBC")?;
-    lines::check(rt, b"[0] to [2], AC AC", b"\x00\x02", b"ACAC")?;
-    lines::check(
-        rt,
-        b"[1, 1, 0] to [0, 0, 1], the detour",
-        detour,
-        b"ACBCBACACB",
-    )?;
-    lines::check(
-        rt,
-        b"[1, 1, 0] to [0, 0, 1], directly",
-        detour,
-        b"BABCACABCACBAB",
-    )?;
-    lines::check_run(rt, b"six discs, what Run writes", six, 0)
-}
-
-// The empty list is the route of a still task, and of no discs.
-fn still(rt: &impl Print) -> io::Result<()> {
-    lines::check(rt, b"[1, 1] to [1, 1], no moves", b"\x01\x01\x01\x01", b"")?;
-    lines::check(rt, b"[1, 1] to [1, 1], BA AB", b"\x01\x01\x01\x01", b"BAAB")?;
-    lines::check(rt, b"no discs, no moves", b"", b"")?;
-    lines::check(rt, b"no discs, AB", b"", b"AB")?;
-    lines::check(rt, b"no discs, AD", b"", b"AD")?;
-    lines::check(rt, b"no discs, one letter", b"", b"A")
-}
-
-fn tall(rt: &impl Print, tower: &[u8]) -> io::Result<()> {
-    lines::check(rt, b"60 discs, still, no moves", &[1u8; 120], b"")?;
-    lines::check(rt, b"60 discs, all 0 to all 2, AB AC", tower, b"ABAC")?;
-    lines::check(rt, b"60 discs, all 0 to all 2, AB AB", tower, b"ABAB")
+// One disc, a detour, six discs, a still task and no discs, of which the empty list is the route, and 60 discs.
+fn others(rt: &impl Print) -> io::Result<()> {
+    let tower = tower_task();
+    let cases: [(&str, &[u8], &[u8]); 5] = [
+        ("[0] to [2], AC", b"\x00\x02", b"AC"),
+        ("[0] to [2], AB BC", b"\x00\x02", b"ABBC"),
+        ("[0] to [2], AC AC", b"\x00\x02", b"ACAC"),
+        ("[1, 1, 0] to [0, 0, 1], the detour", DETOUR, b"ACBCBACACB"),
+        (
+            "[1, 1, 0] to [0, 0, 1], directly",
+            DETOUR,
+            b"BABCACABCACBAB",
+        ),
+    ];
+    for (name, task, letters) in cases {
+        lines::check(rt, name, task, letters)?;
+    }
+    lines::check_run(rt, "six discs, what Run writes", SIX, 0)?;
+    let cases: [(&str, &[u8], &[u8]); 9] = [
+        ("[1, 1] to [1, 1], no moves", b"\x01\x01\x01\x01", b""),
+        ("[1, 1] to [1, 1], BA AB", b"\x01\x01\x01\x01", b"BAAB"),
+        ("no discs, no moves", b"", b""),
+        ("no discs, AB", b"", b"AB"),
+        ("no discs, AD", b"", b"AD"),
+        ("no discs, one letter", b"", b"A"),
+        ("60 discs, still, no moves", &[1; 120], b""),
+        ("60 discs, all 0 to all 2, AB AC", &tower, b"ABAC"),
+        ("60 discs, all 0 to all 2, AB AB", &tower, b"ABAB"),
+    ];
+    for (name, task, letters) in cases {
+        lines::check(rt, name, task, letters)?;
+    }
+    Ok(())
 }
 
 pub fn all(rt: &impl Print) -> io::Result<()> {
-    tie(rt, b"\x01\x00\x00\x01")?;
-    longer(rt, b"\x01\x00\x00\x01")?;
-    bytes(rt, b"\x01\x00\x00\x01")?;
-    illegal(rt, b"\x01\x00\x00\x01")?;
-    several(rt, b"\x01\x00\x00\x01")?;
+    tie(rt)?;
     task_refused(rt)?;
-    others(
-        rt,
-        b"\x01\x01\x00\x00\x00\x01",
-        b"\x00\x01\x02\x00\x00\x01\x01\x02\x00\x01\x01\x00",
-    )?;
-    still(rt)?;
-    tall(rt, &boards::tower_task())
+    others(rt)
 }

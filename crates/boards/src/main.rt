@@ -1,4 +1,4 @@
-// Prints what the library answers on the boards of documents 01 and 02 and on faulty calls.
+// Prints what the library answers on the boards and on faulty calls.
 #![tactic(auto)]
 
 mod batches;
