@@ -1,9 +1,9 @@
 -- The theorems about parts, with the laws that lead to them.
 
--- What a pen puts down.
-pub mod Pens
--- The letters of a course, which it puts down.
-pub mod Letters
+-- How the letters of stretches are written.
+pub mod Written
+-- The stretches of a course.
+pub mod Stretches
 -- What the call answers.
 pub mod Calls
 -- What request 1 asks.

@@ -1,3 +1,2 @@
 -- What our own functions promise each other.
-pub mod Pen
 pub mod Course

@@ -2,7 +2,6 @@
 #![tactic(auto)]
 
 mod course;
-mod pen;
 
 ghost use Rattle.std.specs.Prelude.{◌++◌, map, ◌≡◌, ◌-◌, ◌≤◌, min, length, take, drop};
 ghost use Rattle.plan.specs.Plan.{shortest};

@@ -1,7 +1,7 @@
 -- The parts of the route are those of its course, which is written.
 use native.Mathlib.Omega.{arith}
 use Rattle.route.proofs.Calls.Routes.{some_moves, opened_within}
-use Rattle.parts.proofs.Letters.{opened_bound, opened_parts}
+use Rattle.parts.proofs.Stretches.{opened_bound, opened_parts}
 use Rattle.parts.proofs.parts_from.Goals as goal
 
 -- Where no disc moves there are no letters.

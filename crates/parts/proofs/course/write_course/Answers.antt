@@ -1,45 +1,35 @@
--- `parts::course::write_course` meets its contract: stretch by stretch, the letters of the course. Assumes nothing.
-use Rattle.parts.proofs.Letters.{course_written}
-use Rattle.parts.proofs.Pens.{penned_none, penned_room, penned_after}
+-- The letters of one stretch after another are written, and in the end those of the course.
+use native.Mathlib.Omega.{arith}
+use lib.Seq.{take_all}
+use Rattle.parts.specs.Inner.Course.{counted_parts}
+use Rattle.parts.proofs.Stretches.{counted_length}
+use Rattle.parts.proofs.Written.{counted_bound, counted_more, written_none, written_more}
 use Rattle.parts.proofs.course.write_course.Goals as goal
 
-pub left-spread-requires : goal.left-spread-requires
-left-spread-requires c =
-    rw (c.shift-shifted.ensures, c.second-again.ensures) c.requires.course_bound
+pub loop-part-init : goal.loop-part-init
+unfolding counted_parts
+loop-part-init c = written_none c.args.first c.args.out.now
 
-pub stretch-pen-requires-2 : goal.stretch-pen-requires-2
-stretch-pen-requires-2 c =
-    let gathered = penned_after (penned_none c.args.first c.args.out.now) _ _ c.stretch-pen.ensures.value c.stretch-pen.ensures.out_after in
-    penned_room gathered
+pub overflow_add-end : goal.overflow_add-end
+overflow_add-end c =
+    let items = c.stretches-part-items.result in
+    omega (
+      arith,
+      c.loop-part.invariant.ends,
+      counted_bound items c.loop-part.part-index (omega arith),
+      counted_length c.args.course items c.requires.course_bound c.stretches-part-items.ensures,
+    )
 
-pub stretch-pen-requires-3 : goal.stretch-pen-requires-3
-stretch-pen-requires-3 c =
-    let gathered = penned_after (penned_none c.args.first c.args.out.now) _ _ c.stretch-pen.ensures.value c.stretch-pen.ensures.out_after in
-    let crossed = penned_after gathered _ _ c.stretch-pen-2.ensures.value c.stretch-pen-2.ensures.out_after in
-    penned_room crossed
+pub loop-part-preserved : goal.loop-part-preserved
+loop-part-preserved c =
+    rw (counted_more c.stretches-part-items.result c.loop-part.part-index (omega arith))
+    (written_more c.loop-part.invariant _ _ (rw c.saturating_sub.ensures at c.lesser-reached.ensures) c.letter.ensures (c.fill.ensures.after (λ y e. e)))
 
-pub stretch-pen-requires-4 : goal.stretch-pen-requires-4
-stretch-pen-requires-4 c =
-    let gathered = penned_after (penned_none c.args.first c.args.out.now) _ _ c.stretch-pen.ensures.value c.stretch-pen.ensures.out_after in
-    let crossed = penned_after gathered _ _ c.stretch-pen-2.ensures.value c.stretch-pen-2.ensures.out_after in
-    let shifted = penned_after crossed _ _ c.stretch-pen-3.ensures.value c.stretch-pen-3.ensures.out_after in
-    penned_room shifted
-
-pub stretch-pen-requires-5 : goal.stretch-pen-requires-5
-stretch-pen-requires-5 c =
-    let gathered = penned_after (penned_none c.args.first c.args.out.now) _ _ c.stretch-pen.ensures.value c.stretch-pen.ensures.out_after in
-    let crossed = penned_after gathered _ _ c.stretch-pen-2.ensures.value c.stretch-pen-2.ensures.out_after in
-    let shifted = penned_after crossed _ _ c.stretch-pen-3.ensures.value c.stretch-pen-3.ensures.out_after in
-    let recrossed = penned_after shifted _ _ c.stretch-pen-4.ensures.value c.stretch-pen-4.ensures.out_after in
-    penned_room recrossed
-
--- All letters are those of the course.
 pub returns : goal.returns
 returns c =
-    let gathered = penned_after (penned_none c.args.first c.args.out.now) _ _ c.stretch-pen.ensures.value c.stretch-pen.ensures.out_after in
-    let crossed = penned_after gathered _ _ c.stretch-pen-2.ensures.value c.stretch-pen-2.ensures.out_after in
-    let shifted = penned_after crossed _ _ c.stretch-pen-3.ensures.value c.stretch-pen-3.ensures.out_after in
-    let recrossed = penned_after shifted _ _ c.stretch-pen-4.ensures.value c.stretch-pen-4.ensures.out_after in
-    let all = penned_after recrossed _ _ c.stretch-pen-5.ensures.value c.stretch-pen-5.ensures.out_after in
-    let written = course_written c.args.course c.args.moves c.args.first c.args.out.now c.requires.course_bound c.shift-shifted.ensures c.second-again.ensures c.left-spread.ensures all in
-    record { value = written.0; out_after = written.1 }
+    let items = c.stretches-part-items.result in
+    let all = rw (take_all c.loop-part.part-index items (omega arith)) at c.loop-part.invariant in
+    record {
+      value = omega (arith, all.count, all.ends, counted_length c.args.course items c.requires.course_bound c.stretches-part-items.ensures);
+      out_after = rw c.stretches-part-items.ensures at all.letters;
+    }
