@@ -1,5 +1,5 @@
 -- Laws of pegs and of the third peg of two.
-use Prim.Native.Nat.{ℕ, ◌+◌, ◌-◌, ◌%◌, ◌<◌}
+use Prim.Native.Nat.{ℕ, ◌+◌, ◌-◌, ◌<◌}
 use mathlib.Core.Bool.{Bool, true, false, cond}
 use mathlib.Core.Logic.{◌≢◌}
 use mathlib.Core.Path.{◌≡◌, refl, sym}
@@ -36,7 +36,3 @@ pub third_comm : (i j : ℕ) → third i j ≡ third j i
 third_comm i j = third_cases (λ k. k ≡ third j i) i j
     (λ e. rw e (sym (third_same j)))
     (λ n. rw (third_else j i (λ e. n (sym e))) (omega arith))
-
--- On pegs the third is a remainder by 3, with no test of whether they differ.
-pub third_mod : (i j : ℕ) → i < 3 → j < 3 → (6 - i - j) % 3 ≡ third i j
-third_mod i j hi hj = third_cases (λ k. (6 - i - j) % 3 ≡ k) i j (λ e. omega arith) (λ n. omega arith)
