@@ -1,7 +1,16 @@
 // What Totals answers.
+use std::fmt;
+
 // Over all ordered pairs of positions of a board: the fewest moves, added up, and how many pairs tie.
 #[derive(Clone, Copy, Debug, PartialEq, Eq)]
 pub struct Totals {
     pub sum: u64,
     pub ties: u64,
+}
+
+// The two numbers, as the programs print them.
+impl fmt::Display for Totals {
+    fn fmt<W: fmt::Write>(&self, f: &mut fmt::Formatter<W>) -> fmt::Result {
+        write!(f, "sum {}, ties {}", self.sum, self.ties)
+    }
 }

@@ -16,12 +16,12 @@ use terms::Terms;
 pub const TOTALS_LIMIT: u64 = 15;
 
 // Totals: over all ordered pairs of positions of n discs, the sum of the fewest moves and the number of ties. Refuses with 20.
-#[tactic(auto, using(std::proofs::lemmas::Bool::Decides::nat_tests), unfolding(crate::specs::Answer::totals_answer))]
+#[tactic(auto, using(std::proofs::lemmas::Bool::Decides::nat_tests, crate::proofs::FewestSum::sum_hinz, crate::proofs::TieCount::ties_hinz), unfolding(crate::specs::Answer::totals_answer, crate::specs::Terms::terms_of))]
 pub fn totals(n: u64) -> Result<Totals, Refusal>
     ensures { reply_of result ≡ totals_answer n }
 {
     if TOTALS_LIMIT < n {
         return Err(Refusal::TooLargeToTotal);
     }
-    Ok(Terms::of(n).answered())
+    Ok(Terms::of(n).into())
 }

@@ -1,4 +1,4 @@
-// Hinz's recurrences (002, section 1.3.2): the terms of a board from those of the board with one disc less.
+// Hinz's recurrences: the terms of a board from those of the board with one disc less.
 ghost use Rattle.std.specs.Prelude.{◌≡◌, ◌≤◌};
 ghost use Rattle.averages.specs.Answer.{totals_limit};
 ghost use Rattle.averages.specs.Inner.Next.{next_sum, next_of, totals_in};
@@ -104,27 +104,28 @@ impl Terms {
         }
     }
 
-    // Those of them that are answered.
-    pub fn answered(self) -> Totals
-        ensures { result ≡ totals_in self }
-    {
-        Totals {
-            sum: self.sum,
-            ties: self.ties,
-        }
-    }
-
     // The terms of n discs, from those of none up.
+    #[tactic(auto, using(crate::proofs::TermsFit::terms_fit))]
     pub fn of(n: u64) -> Terms
         requires { n ≤ totals_limit }
         ensures { result ≡ terms_of n }
     {
         let mut terms = Terms::none();
-        let mut k = 0;
-        while k < n {
+        for _ in 0..n {
             terms = terms.next();
-            k += 1;
         }
         terms
+    }
+}
+
+// Those of them that are answered.
+impl From<Terms> for Totals {
+    ghost from_gives = { λ terms totals. totals ≡ totals_in terms };
+
+    fn from(terms: Terms) -> Totals {
+        Totals {
+            sum: terms.sum,
+            ties: terms.ties,
+        }
     }
 }
