@@ -2,28 +2,29 @@
 #![tactic(auto)]
 
 ghost use Rattle.std.specs.Prelude.{◌≡◌};
-ghost use Rattle.board.specs.Refusal.{number};
+ghost use Rattle.board.specs.Refusal.{number, reply_of};
 ghost use Rattle.board.specs.Reply.{refused};
 ghost use Rattle.word.specs.Words.{word, shortest_word};
 
 use board::Refusal;
 
-// The largest number of 64 bits.
-const LARGEST: u64 = 18446744073709551615;
-
 // The number that a refusal comes as.
 pub fn refusal_word(why: Refusal) -> u64
     ensures { result ≡ word (refused (number why)) }
 {
-    LARGEST - why.number() + 1
+    u64::MAX - why.number() + 1
+}
+
+// The number that an answer comes as: itself, or that of its refusal.
+pub fn word_of(answer: Result<u64, Refusal>) -> u64
+    ensures { result ≡ word (reply_of answer) }
+{
+    answer.unwrap_or_else(refusal_word)
 }
 
 // Plan's shortest: the fewest moves of a task.
 pub fn shortest_word(task: &[u8]) -> u64
     ensures { result ≡ shortest_word task.now }
 {
-    match plan::plan(task) {
-        Ok(plan) => plan.shortest(),
-        Err(why) => refusal_word(why),
-    }
+    word_of(plan::plan(task).map(|plan| plan.shortest()))
 }
