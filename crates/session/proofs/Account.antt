@@ -6,38 +6,35 @@ use mathlib.Core.Bool.{true, ◌&&◌, and-eq-true_iff}
 use mathlib.Core.Logic.{◌≢◌, ◌↔◌}
 use mathlib.Core.Path.{◌≡◌, refl}
 use native.Mathlib.Omega.{arith}
-use borrow.Author.Tests.{eqb-true, eq-eqb, leb-true, le-leb}
-use lib.Dec.{eqb, leb}
+use Rattle.std.proofs.lemmas.Bool.Decides.{nat_tests}
 use Rattle.session.specs.Counts.{play_limit, no_plays, mark_of, counted, counts_agree, marks_agree, Account, excess_of, Excess}
 use Rattle.session.specs.declared.counting.Counts.{Counts}
 use Rattle.session.proofs.Marks.{mark_one, mark_balance}
 
--- Counts that agree add up, and are few enough.
-pub counts_sum : (c : Counts) → counts_agree c ≡ true → c.made ≡ c.toward + c.level + c.away
-unfolding counts_agree
-counts_sum c h = eqb-true _ _ ((and-eq-true_iff (eqb c.made (c.toward + c.level + c.away)) (leb c.made play_limit)).0 h).0
-
+-- Counts that agree are few enough, and none of them is above the plays made.
 pub counts_few : (c : Counts) → counts_agree c ≡ true → c.made ≤ play_limit
 unfolding counts_agree
-counts_few c h = leb-true _ _ ((and-eq-true_iff (eqb c.made (c.toward + c.level + c.away)) (leb c.made play_limit)).0 h).1
+counts_few c h = grind (arith, nat_tests)
+
+pub counts_within : (c : Counts) → counts_agree c ≡ true → c.toward + c.level + c.away ≤ c.made
+unfolding counts_agree
+counts_within c h = grind (arith, nat_tests)
 
 module _ {c : Counts} {now first : ℕ} where
   -- The counts of an account agree, and so do its marks.
   pub account_counts : Account c now first → counts_agree c ≡ true
   unfolding counts_agree
-  account_counts a = rw (eq-eqb _ _ a.sum, le-leb _ _ a.within)
+  account_counts a = grind (arith, nat_tests)
 
   pub account_marks : Account c now first → marks_agree c now first ≡ true
   unfolding marks_agree
-  account_marks a = eq-eqb _ _ a.marks
+  account_marks a = grind (arith, nat_tests)
 
   -- The tests pass exactly where there is an account.
   pub account_exactly : ((counts_agree c && marks_agree c now first) ≡ true) ↔ Account c now first
-  unfolding marks_agree
+  unfolding counts_agree marks_agree
   account_exactly = (
-    (λ e.
-        let (counts, marks) = (and-eq-true_iff (counts_agree c) (marks_agree c now first)).0 e in
-        record { sum = counts_sum c counts; within = counts_few c counts; marks = eqb-true _ _ marks }),
+    λ e. record { sum = grind (arith, nat_tests); within = grind (arith, nat_tests); marks = grind (arith, nat_tests) },
     λ a. (and-eq-true_iff (counts_agree c) (marks_agree c now first)).1 (account_counts a, account_marks a),
   )
 

@@ -1,20 +1,24 @@
 -- What Begin, Play and Report answer, and when: demand 1 of them, and the laws for whoever calls them.
 use Prim.Native.Nat.{ℕ, ◌+◌, ◌<◌, ◌^◌}
 use mathlib.Core.Bool.{Bool, true, false, not}
-use mathlib.Core.List.{List, append-nil}
+use mathlib.Core.List.{List, ◌++◌, append-nil}
 use mathlib.Core.Logic.{◌≢◌, ◌↔◌}
 use mathlib.Core.Path.{◌≡◌, refl}
 use native.Mathlib.Nat.{add-zero}
 use native.Mathlib.Omega.{arith}
 use borrow.Author.Tests.{not-false}
+use lib.ListN.{take-append-drop}
 use Rattle.board.specs.Fault.{Faultless, Obeys, task_faults}
 use Rattle.board.specs.Legal.{legal_check}
 use Rattle.board.specs.Move.{Move, Legal}
 use Rattle.board.specs.Reply.{refused, answer, ◌>>◌, pass, check}
+use Rattle.board.specs.Task.{discs}
 use Rattle.board.proofs.Legality.{legal_accepted, legal_passes, legal_obeys}
 use Rattle.board.proofs.Obeys.{negated, answer_obeys, check_obeys, then_obeys}
 use Rattle.board.proofs.Replies.{then_answered, check_answered}
 use Rattle.board.proofs.Tasks.{faultless_accepted, task_obeys}
+use Rattle.plan.specs.Inner.Read.{read_answer}
+use Rattle.plan.proofs.Calls.{read_ends, read_faulty}
 use Rattle.session.specs.Answer.{opened, begin_answer, no_session, session_or, play_check, move_mark, play_answer, played_record, play_leaves, report_answer}
 use Rattle.session.specs.Counts.{play_limit, fumble, full, figures_of}
 use Rattle.session.specs.Demand3.{Reports}
@@ -74,6 +78,16 @@ play_fits s m {k} fits e = by (sound s) refl e
 pub begin_accepts : (t : List ℕ) → Faultless (task_faults t) → begin_answer t ≡ answer (opened t)
 unfolding begin_answer
 begin_accepts t none = rw (faultless_accepted t none)
+
+-- Where a task is read, its record is that of its two halves.
+pub read_begun : (t : List ℕ) {s g : List ℕ} → answer (s, g) ≡ read_answer t → answer (opened (s ++ g)) ≡ begin_answer t
+unfolding begin_answer
+read_begun t e = let o = read_ends t e in rw (o.accepted, o.from, o.to, take-append-drop (discs t) t)
+
+-- Where it cannot be read, Begin is refused as it is.
+pub read_unbegun : (t : List ℕ) {k : ℕ} → refused k ≡ read_answer t → refused k ≡ begin_answer t
+unfolding begin_answer
+read_unbegun t e = rw (← read_faulty t e)
 
 -- What stands beside a refusal of Begin is no sound record: Play and Report refuse it with 10.
 pub no_session_unsound : sound no_session ≡ false

@@ -6,10 +6,11 @@ use mathlib.Core.Logic.{◌≢◌, ◌⊎◌, inl, inr, ◌↔◌}
 use mathlib.Core.Path.{◌≡◌, refl}
 use native.Mathlib.Decide.{ℕ_discrete}
 use native.Mathlib.Omega.{arith}
-use borrow.Author.Tests.{eqb-true, eq-eqb, ne_eqb}
+use borrow.Author.Tests.{ne_eqb}
 use lib.Dec.{eqb}
+use Rattle.std.proofs.lemmas.Bool.Decides.{nat_tests}
 use Rattle.board.specs.Reply.{refused, ◌>>◌, Check, check}
-use Rattle.board.proofs.Obeys.{fails, either}
+use Rattle.board.proofs.Obeys.{fails}
 use Rattle.session.specs.Counts.{play_limit, fumble, full}
 use Rattle.session.specs.declared.counting.Counts.{Counts}
 
@@ -48,7 +49,7 @@ module _ (c : Counts) (fumbles : ℕ) where
   -- A record is full exactly where made or the fumbles stand at the limit.
   pub full_exactly : (full c fumbles ≡ true) ↔ ((c.made ≡ play_limit) ⊎ (fumbles ≡ play_limit))
   unfolding full
-  full_exactly = either (eqb c.made play_limit) _ (eqb-true _ _, eq-eqb _ _) (eqb-true _ _, eq-eqb _ _)
+  full_exactly = (λ e. grind (arith, nat_tests), λ s. grind (arith, nat_tests))
 
   -- And it is not where neither does.
   pub not_full : (full c fumbles ≡ false) ↔ ((c.made ≢ play_limit) × (fumbles ≢ play_limit))

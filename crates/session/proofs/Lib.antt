@@ -9,3 +9,4 @@ pub mod Sessions
 pub mod Demand3
 -- What the code's proofs cite.
 pub mod Replays
+pub mod Plays

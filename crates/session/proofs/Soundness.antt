@@ -1,20 +1,18 @@
 -- A sound record: the test passes exactly where it is one, and what the functions need of it.
 use Prim.Native.Nat.{ℕ, ◌+◌, ◌≤◌, ◌<◌, ◌^◌}
-use mathlib.Core.Bool.{true, and-eq-true_iff}
+use mathlib.Core.Bool.{true}
 use mathlib.Core.List.{List}
 use mathlib.Core.Logic.{◌↔◌}
 use mathlib.Core.Path.{◌≡◌}
 use native.Mathlib.Omega.{arith}
-use borrow.Author.Tests.{eqb-true, eq-eqb, leb-true, le-leb}
-use lib.Dec.{leb}
 use lib.ListN.{length, take}
 use lib.Seq.{length-take-le}
-use Rattle.board.specs.Held.{holds_position, HoldsPosition}
+use Rattle.std.proofs.lemmas.Bool.Decides.{nat_tests}
+use Rattle.board.specs.Held.{HoldsPosition}
 use Rattle.board.specs.Task.{limit}
 use Rattle.board.proofs.Arrays.{holds_exactly, held_formed}
 use Rattle.plan.specs.Inner.Sound.{Ends}
 use Rattle.plan.proofs.Sound.{ends_fewest, ends_fit}
-use Rattle.session.specs.Counts.{counts_agree}
 use Rattle.session.specs.Record.{start_of, goal_of, current_of, first_of, now_of, positions_held, sound, PositionsHeld, Sound}
 use Rattle.session.specs.declared.record.Session.{Session}
 use Rattle.session.proofs.Account.{account_counts, account_marks, account_exactly}
@@ -23,26 +21,21 @@ use Rattle.session.proofs.Account.{account_counts, account_marks, account_exactl
 pub positions_held_lem : (s : Session) → positions_held s ≡ true → PositionsHeld s
 unfolding positions_held
 positions_held_lem s h =
-    let (few, h₁) = (and-eq-true_iff (leb s.n limit) _).0 h in
-    let (start, h₂) = (and-eq-true_iff (holds_position s.n s.start) _).0 h₁ in
-    let (goal, current) = (and-eq-true_iff (holds_position s.n s.goal) _).0 h₂ in
     record {
-      few = leb-true _ _ few;
-      start = (holds_exactly s.n s.start).0 start;
-      goal = (holds_exactly s.n s.goal).0 goal;
-      current = (holds_exactly s.n s.current).0 current;
+      few = grind (arith, nat_tests);
+      start = (holds_exactly s.n s.start).0 (grind (arith, nat_tests));
+      goal = (holds_exactly s.n s.goal).0 (grind (arith, nat_tests));
+      current = (holds_exactly s.n s.current).0 (grind (arith, nat_tests));
     }
 
 -- And one that holds them passes it.
 held_positions : (s : Session) → PositionsHeld s → positions_held s ≡ true
 unfolding positions_held
 held_positions s p =
-    rw (
-      le-leb _ _ p.few,
-      (holds_exactly s.n s.start).1 p.start,
-      (holds_exactly s.n s.goal).1 p.goal,
-    )
-    ((holds_exactly s.n s.current).1 p.current)
+    let start = (holds_exactly s.n s.start).1 p.start in
+    let goal = (holds_exactly s.n s.goal).1 p.goal in
+    let current = (holds_exactly s.n s.current).1 p.current in
+    grind (arith, nat_tests, p.few)
 
 pub positions_exactly : (s : Session) → (positions_held s ≡ true) ↔ PositionsHeld s
 positions_exactly s = (positions_held_lem s, held_positions s)
@@ -51,23 +44,25 @@ positions_exactly s = (positions_held_lem s, held_positions s)
 pub sound_record : (s : Session) → sound s ≡ true → Sound s
 unfolding sound
 sound_record s h =
-    let (held, h₁) = (and-eq-true_iff _ _).0 h in
-    let (counts, h₂) = (and-eq-true_iff _ _).0 h₁ in
-    let (fumbles, h₃) = (and-eq-true_iff _ _).0 h₂ in
-    let (remaining, marks) = (and-eq-true_iff _ _).0 h₃ in
     record {
-      positions = positions_held_lem s held;
-      account = account_exactly.0 ((and-eq-true_iff (counts_agree s.counts) _).1 (counts, marks));
-      fumbles = leb-true _ _ fumbles;
-      remaining = eqb-true _ _ remaining;
+      positions = positions_held_lem s (grind (arith, nat_tests));
+      account = account_exactly.0 (grind (arith, nat_tests));
+      fumbles = grind (arith, nat_tests);
+      remaining = grind (arith, nat_tests);
     }
+
+-- So it has at most `limit` discs.
+pub sound_few : (s : Session) → sound s ≡ true → s.n ≤ limit
+sound_few s h = (sound_record s h).positions.few
 
 -- What is sound passes the test.
 pub record_sound : (s : Session) → Sound s → sound s ≡ true
 unfolding sound
 record_sound s r =
-    rw (held_positions s r.positions, account_counts r.account, le-leb _ _ r.fumbles, eq-eqb _ _ r.remaining)
-    (account_marks r.account)
+    let held = held_positions s r.positions in
+    let counts = account_counts r.account in
+    let marks = account_marks r.account in
+    grind (arith, nat_tests, r.fumbles, r.remaining)
 
 pub sound_exactly : (s : Session) → (sound s ≡ true) ↔ Sound s
 sound_exactly s = (sound_record s, record_sound s)
@@ -94,12 +89,13 @@ module _ {s : Session} (z : Sized s) (p : PositionsHeld s) where
   pub current_ends : Ends (current_of s) (goal_of s)
   current_ends = held_ends s.n s.current s.goal p.few z.current_size z.goal_size p.current p.goal
 
-  -- Its current position has n discs.
-  pub current_room : s.n ≤ length s.current
-  current_room = omega (arith, p.few, z.current_size)
+  -- What remains of it is far below what 64 bits hold.
+  pub remaining_fits : s.remaining ≡ now_of s → s.remaining < 2 ^ limit
+  remaining_fits e = omega (arith, ends_fewest current_ends, ends_fit current_ends)
 
+  -- Its current position has n discs.
   pub current_length : length (current_of s) ≡ s.n
-  current_length = length-take-le s.n s.current current_room
+  current_length = length-take-le s.n s.current (omega (arith, p.few, z.current_size))
 
 -- The plays made and the fewest that remain are together never below the fewest at the start (02, CR 2) ..
 pub sound_covers : {s : Session} → Sound s → first_of s ≤ s.counts.made + now_of s
@@ -107,6 +103,4 @@ sound_covers r = omega (arith, r.account.sum, r.account.marks)
 
 -- .. and their sum fits 64 bits.
 pub sound_fits : {s : Session} → Sized s → Sound s → s.counts.made + now_of s < 2 ^ 64
-sound_fits z r =
-    let ends = current_ends z r.positions in
-    omega (arith, r.account.within, ends_fewest ends, ends_fit ends)
+sound_fits z r = omega (arith, r.account.within, r.remaining, remaining_fits z r.positions r.remaining)

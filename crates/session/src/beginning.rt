@@ -1,16 +1,15 @@
 // Begin: the record of a task.
-ghost use Rattle.std.specs.Prelude.{◌≡◌};
-ghost use Rattle.board.specs.Reply.{pass};
-ghost use Rattle.board.specs.Task.{task_check};
+ghost use Rattle.std.specs.Prelude.{◌≡◌, ◌++◌};
 ghost use Rattle.session.specs.Answer.{no_session, opened as opened_of, begin_reply, begin_answer, session_or};
 
 use crate::counting::Counts;
 use crate::record::Session;
-use crate::sound::fewest_of;
-use board::{LIMIT, Refusal};
+use board::{LIMIT, Refusal, padded_array};
+use plan::Task;
 
 // Begin's answer: the record beside the verdict. Where the task is refused it is no sound record.
-#[derive(Clone, Copy)]
+// Stays: a struct of both and no Result of one, since the contract says what the record is after a refusal too.
+#[derive(Clone, Copy, Debug, PartialEq, Eq)]
 pub struct Begun {
     pub verdict: Result<(), Refusal>,
     pub session: Session,
@@ -26,45 +25,43 @@ fn no_session() -> Session
         start: zeros,
         goal: zeros,
         current: zeros,
-        counts: Counts::none(),
+        counts: Counts::default(),
         fumbles: 0,
         remaining: 0,
     }
 }
 
-// The record of an accepted task.
-fn opened(task: &[u8]) -> Session
-    requires { task_check task.now ≡ pass }
-    ensures { result ≡ opened_of task.now }
+// The record of a task.
+fn opened(task: &Task) -> Session
+    ensures { result ≡ opened_of (task.now.start.now ++ task.now.goal.now) }
 {
-    let n = task.len() / 2;
-    let start = board::padded_array(&task[..n]);
-    let goal = board::padded_array(&task[n..]);
-    let remaining = fewest_of(&task[..n], &task[n..]);
+    let start = padded_array(task.start);
+    let goal = padded_array(task.goal);
     Session {
-        n,
+        n: task.discs(),
         start,
         goal,
         current: start,
-        counts: Counts::none(),
+        counts: Counts::default(),
         fumbles: 0,
-        remaining,
+        remaining: task.plan().shortest(),
     }
 }
 
 // Begin: the record of a task. Refuses with the task faults, beside a record that Play and Report refuse.
+#[tactic(auto, using(crate::proofs::Calls::read_begun, crate::proofs::Calls::read_unbegun))]
 pub fn begin(task: &[u8]) -> Begun
     ensures result_value { begin_reply result ≡ begin_answer task.now }
     ensures session_value { result.session ≡ session_or (begin_answer task.now) }
 {
-    match board::task_verdict(task) {
+    match Task::read(task) {
         Err(why) => Begun {
             verdict: Err(why),
             session: no_session(),
         },
-        Ok(()) => Begun {
+        Ok(task) => Begun {
             verdict: Ok(()),
-            session: opened(task),
+            session: opened(&task),
         },
     }
 }

@@ -1,13 +1,14 @@
 // The counts of a session, and what a play and a report make of them.
 ghost use Rattle.std.specs.Prelude.{true, ◌≡◌, ◌+◌, ◌≤◌, ◌<◌, ◌^◌};
 ghost use Rattle.board.specs.Refusal.{number};
-ghost use Rattle.session.specs.Counts.{no_plays, mark_of, counted, fumble as fumble_of, full, counts_agree, excess_of};
+ghost use Rattle.session.specs.Counts.{mark_of, counted, fumble as fumble_of, full, counts_agree, excess_of};
 
 use board::Refusal;
+use std::cmp::Ordering;
 use std::fmt;
 
-// The plays made, and how many of them were toward, level and away.
-#[derive(Clone, Copy, Debug, PartialEq, Eq)]
+// The plays made, and how many of them were toward, level and away. At first none.
+#[derive(Clone, Copy, Debug, Default, PartialEq, Eq)]
 pub struct Counts {
     pub made: u64,
     pub toward: u64,
@@ -36,59 +37,43 @@ pub const PLAY_LIMIT: u64 = 1000000;
 
 impl Mark {
     // The mark of a play, from the fewest to the goal before it and after it.
+    #[tactic(auto, using(std::proofs::lemmas::Bool::Decides::nat_tests), unfolding(crate::specs::Counts::mark_of))]
     pub fn of(before: u64, after: u64) -> Mark
         ensures { result ≡ mark_of before after }
     {
-        if after < before {
-            return Mark::Toward;
+        match after.cmp(&before) {
+            Ordering::Less => Mark::Toward,
+            Ordering::Equal => Mark::Level,
+            Ordering::Greater => Mark::Away,
         }
-        if before < after {
-            return Mark::Away;
-        }
-        Mark::Level
     }
 }
 
-// What a refused play adds to the fumbles: 1 if it was refused with 8 or 9, 0 with any other number.
+// What a refused play adds to the fumbles: 1 where there is no disc or a smaller one is in the way, 0 with any other refusal.
 pub fn fumble(why: Refusal) -> u64
     ensures { result ≡ fumble_of (number why) }
 {
-    let refusal = why.number();
-    if refusal == 8 {
-        return 1;
-    }
-    if refusal == 9 { 1 } else { 0 }
+    matches!(why, Refusal::NoDisc | Refusal::SmallerInTheWay) as u64
 }
 
 impl Counts {
-    // No play yet.
-    pub fn none() -> Counts
-        ensures { result ≡ no_plays }
-    {
-        Counts {
-            made: 0,
-            toward: 0,
-            level: 0,
-            away: 0,
-        }
-    }
-
     // One play more.
-    pub fn with(self, mark: Mark) -> Counts
+    #[tactic(auto, using(crate::proofs::Account::counts_few, crate::proofs::Account::counts_within), unfolding(crate::specs::Counts::counted))]
+    pub fn with(mut self, mark: Mark) -> Counts
         requires { counts_agree self ≡ true }
         ensures { result ≡ counted self mark }
     {
-        let mut counts = self;
-        counts.made += 1;
+        self.made += 1;
         match mark {
-            Mark::Toward => counts.toward += 1,
-            Mark::Level => counts.level += 1,
-            Mark::Away => counts.away += 1,
+            Mark::Toward => self.toward += 1,
+            Mark::Level => self.level += 1,
+            Mark::Away => self.away += 1,
         }
-        counts
+        self
     }
 
     // Whether no more plays are taken: the plays made or the fumbles stand at the limit.
+    #[tactic(auto, using(std::proofs::lemmas::Bool::Decides::nat_tests), unfolding(crate::specs::Counts::full))]
     pub fn is_full(self, fumbles: u64) -> bool
         ensures { result ≡ full self fumbles }
     {
@@ -96,23 +81,15 @@ impl Counts {
     }
 
     // Whether the counts of the marks add up to the plays made, and those are few enough.
+    #[tactic(auto, using(std::proofs::lemmas::Bool::Decides::nat_tests), unfolding(crate::specs::Counts::counts_agree))]
     pub fn agree(self) -> bool
         ensures { result ≡ counts_agree self }
     {
-        let made = self.made;
-        if PLAY_LIMIT < made {
-            return false;
-        }
-        if made < self.toward {
-            return false;
-        }
-        if made < self.level {
-            return false;
-        }
-        if made < self.away {
-            return false;
-        }
-        made == self.toward + self.level + self.away
+        self.made <= PLAY_LIMIT
+            && self.toward <= self.made
+            && self.level <= self.made
+            && self.away <= self.made
+            && self.made == self.toward + self.level + self.away
     }
 
     // The plays made and the fewest moves that remain, less the fewest at the start.

@@ -20,14 +20,10 @@ pub fn play(session: &mut Session, from: u8, to: u8) -> Result<Mark, Refusal>
 }
 
 // Play itself, on a record by value.
-pub fn play_on(session: Session, from: u8, to: u8) -> Stepped
+pub fn play_on(mut session: Session, from: u8, to: u8) -> Stepped
     ensures { (reply_of result.played ≡ play_answer session (record { from = from; to = to }))
         × (result.session ≡ play_leaves session (record { from = from; to = to })) }
 {
-    let mut held = session;
-    let played = play(&mut held, from, to);
-    Stepped {
-        played,
-        session: held,
-    }
+    let played = play(&mut session, from, to);
+    Stepped { played, session }
 }

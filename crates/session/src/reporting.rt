@@ -7,32 +7,30 @@ ghost use Rattle.session.specs.Record.{first_of, now_of, sound};
 
 use crate::counting::Figures;
 use crate::record::Session;
-use crate::sound::{fewest_held, is_sound};
 use board::Refusal;
 
-// What a report says of a sound record.
-fn figures(s: Session) -> Figures
-    requires { sound s ≡ true }
-    ensures { result ≡ figures_of s.counts (now_of s) (first_of s) }
-{
-    let start = s.start;
-    let goal = s.goal;
-    let counts = s.counts;
-    let now = s.remaining;
-    let first = fewest_held(s.n, start, goal);
-    Figures {
-        counts,
-        remaining: now,
-        excess: counts.excess(now, first),
+impl Session {
+    // What a report says of a sound record.
+    fn figures(&self) -> Figures
+        requires { sound self.now ≡ true }
+        ensures { result ≡ figures_of self.now.counts (now_of self.now) (first_of self.now) }
+    {
+        let first = self.fewest_from(&self.start);
+        Figures {
+            counts: self.counts,
+            remaining: self.remaining,
+            excess: self.counts.excess(self.remaining, first),
+        }
     }
 }
 
 // Report: the figures of a record. Refuses with 10.
+#[tactic(auto, unfolding(crate::specs::Answer::report_answer))]
 pub fn report(s: Session) -> Result<Figures, Refusal>
     ensures { reply_of result ≡ report_answer s }
 {
-    if is_sound(s) {
-        Ok(figures(s))
+    if s.is_sound() {
+        Ok(s.figures())
     } else {
         Err(Refusal::UnsoundRecord)
     }

@@ -4,98 +4,69 @@ ghost use Rattle.board.specs.Fewest.{fewest};
 ghost use Rattle.board.specs.Task.{limit};
 ghost use Rattle.plan.specs.Inner.Sound.{Ends};
 ghost use Rattle.session.specs.Counts.{counts_agree, marks_agree};
-ghost use Rattle.session.specs.Record.{first_of, now_of, positions_held, sound};
+ghost use Rattle.session.specs.Record.{goal_of, first_of, now_of, positions_held, sound};
 
 use crate::counting::PLAY_LIMIT;
 use crate::record::Session;
 use board::{LIMIT, holds_position};
 use plan::Task;
 
-// The fewest moves between two positions.
-pub fn fewest_of(from: &[u8], to: &[u8]) -> u64
-    requires { Ends from.now to.now }
-    ensures value { result ≡ fewest from.now to.now }
-    ensures upper_bound { result < 2 ^ limit }
-{
-    let task = Task {
-        start: from,
-        goal: to,
-    };
-    task.plan().shortest()
-}
+impl Session {
+    // The fewest moves from one of its positions to its goal.
+    pub(crate) fn fewest_from(&self, from: &[u8; LIMIT]) -> u64
+        requires n_le_limit { self.now.n ≤ limit }
+        requires ends { Ends (take self.now.n from.now) (goal_of self.now) }
+        ensures value { result ≡ fewest (take self.now.n from.now) (goal_of self.now) }
+        ensures upper_bound { result < 2 ^ limit }
+    {
+        let task = Task {
+            start: &from[..self.n],
+            goal: &self.goal[..self.n],
+        };
+        task.plan().shortest()
+    }
 
-// The fewest moves between two positions of n discs as a record holds them.
-pub fn fewest_held(n: usize, from: [u8; LIMIT], to: [u8; LIMIT]) -> u64
-    requires n_le_limit { n ≤ limit }
-    requires ends { Ends (take n from) (take n to) }
-    ensures value { result ≡ fewest (take n from) (take n to) }
-    ensures upper_bound { result < 2 ^ limit }
-{
-    fewest_of(&from[..n], &to[..n])
-}
+    // Whether what remains is the fewest from the current position to the goal.
+    fn remaining_agrees(&self) -> bool
+        requires { positions_held self.now ≡ true }
+        ensures { result ≡ eqb self.now.remaining (now_of self.now) }
+    {
+        let now = self.fewest_from(&self.current);
+        self.remaining == now
+    }
 
-// Whether what remains is the fewest from the current position to the goal.
-fn remaining_agrees(s: Session) -> bool
-    requires { positions_held s ≡ true }
-    ensures { result ≡ eqb s.remaining (now_of s) }
-{
-    let goal = s.goal;
-    let current = s.current;
-    let remaining = s.remaining;
-    let now = fewest_held(s.n, current, goal);
-    remaining == now
-}
+    // Whether the plays toward and away account for the way from the start to the current position.
+    #[tactic(auto, unfolding(crate::specs::Counts::marks_agree))]
+    fn marks_agree(&self) -> bool
+        requires positions { positions_held self.now ≡ true }
+        requires counts { counts_agree self.now.counts ≡ true }
+        requires remaining { self.now.remaining ≡ now_of self.now }
+        ensures { result ≡ marks_agree self.now.counts (now_of self.now) (first_of self.now) }
+    {
+        let first = self.fewest_from(&self.start);
+        self.counts.toward + self.remaining == self.counts.away + first
+    }
 
-// Whether the plays toward and away account for the way from the start to the current position.
-fn marks_agree(s: Session) -> bool
-    requires s_value { positions_held s ≡ true }
-    requires counts_value { counts_agree s.counts ≡ true }
-    requires remaining_value { s.remaining ≡ now_of s }
-    ensures { result ≡ marks_agree s.counts (now_of s) (first_of s) }
-{
-    let start = s.start;
-    let goal = s.goal;
-    let counts = s.counts;
-    let first = fewest_held(s.n, start, goal);
-    counts.toward + s.remaining == counts.away + first
-}
+    // Whether a record holds three positions of n discs.
+    #[tactic(auto, using(std::proofs::lemmas::Bool::Decides::nat_tests), unfolding(crate::specs::Record::positions_held))]
+    fn holds_positions(&self) -> bool
+        ensures { result ≡ positions_held self.now }
+    {
+        self.n <= LIMIT
+            && holds_position(self.n, self.start)
+            && holds_position(self.n, self.goal)
+            && holds_position(self.n, self.current)
+    }
 
-// Whether a record holds three positions of n discs.
-fn holds_positions(s: Session) -> bool
-    ensures { result ≡ positions_held s }
-{
-    let n = s.n;
-    if LIMIT < n {
-        return false;
+    // Whether a record is sound. At most two fewests are worked out: from the current position and from the start.
+    #[tactic(auto, using(std::proofs::lemmas::Bool::Decides::nat_tests), unfolding(crate::specs::Record::sound))]
+    pub(crate) fn is_sound(&self) -> bool
+        ensures { result ≡ sound self.now }
+    {
+        self.holds_positions()
+            && self.counts.agree()
+            && self.fumbles <= PLAY_LIMIT
+            && self.remaining_agrees()
+            && self.marks_agree()
     }
-    let start = s.start;
-    if !holds_position(n, start) {
-        return false;
-    }
-    let goal = s.goal;
-    if !holds_position(n, goal) {
-        return false;
-    }
-    let current = s.current;
-    holds_position(n, current)
-}
-
-// Whether a record is sound. At most two fewests are worked out: from the current position and from the start.
-pub fn is_sound(s: Session) -> bool
-    ensures { result ≡ sound s }
-{
-    if !holds_positions(s) {
-        return false;
-    }
-    let counts = s.counts;
-    if !counts.agree() {
-        return false;
-    }
-    if PLAY_LIMIT < s.fumbles {
-        return false;
-    }
-    if !remaining_agrees(s) {
-        return false;
-    }
-    marks_agree(s)
 }

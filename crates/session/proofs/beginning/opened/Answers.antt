@@ -1,25 +1,11 @@
--- `session::beginning::opened` meets its contract: the halves of an accepted task have at most `limit` bytes each, and are ends. Assumes
--- nothing.
-use native.Mathlib.Omega.{arith}
-use Rattle.board.proofs.Tasks.{SoundTask, task_accepted}
-use Rattle.plan.proofs.Parts.{part_to_end}
-use Rattle.plan.proofs.Sound.{task_ends}
+-- The halves of the bytes of a task are its ends.
+use Rattle.std.proofs.Common.{rules}
+use Rattle.board.proofs.Tasks.{joined_task}
+use Rattle.plan.proofs.Sound.{ends_fewest}
 use Rattle.session.proofs.beginning.opened.Goals as goal
 
-pub padded_array-start-requires : goal.padded_array-start-requires
-padded_array-start-requires c =
-    let sound : SoundTask c.args.task.now =
-    task_accepted c.args.task.now c.requires in
-    let s = sound in omega arith
-
-pub padded_array-goal-requires : goal.padded_array-goal-requires
-padded_array-goal-requires c =
-    let sound : SoundTask c.args.task.now =
-    task_accepted c.args.task.now c.requires in
-    let s = sound in rw part_to_end (omega arith)
-
-pub fewest_of-remaining-requires : goal.fewest_of-remaining-requires
-fewest_of-remaining-requires c =
-    let sound : SoundTask c.args.task.now =
-    task_accepted c.args.task.now c.requires in
-    rw part_to_end (task_ends (sound))
+pub returns : goal.returns
+returns c =
+    let ends = c.args.task.now.ends in
+    let (half, first, second) = joined_task _ _ ends.same in
+    rw (first, second, half, ends_fewest ends, ← c.plan.ensures, ← c.shortest.ensures, ← c.discs.ensures) (search rules)

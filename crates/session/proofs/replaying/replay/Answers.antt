@@ -1,19 +1,17 @@
--- `session::replaying::replay` meets its contract. The loop's invariant: `i` is at most the length, and the plays from `i` on, made on the
--- record held, leave what all of them leave. The measure is what is left of the length. Assumes nothing.
-use mathlib.Core.Path.{◌∙◌}
-use native.Mathlib.Omega.{arith}
+-- The plays that are left, made on the record as it stands, leave what all of them leave.
+use Rattle.std.proofs.Common.{sym, ◌∙◌, arith}
 use Rattle.session.proofs.Replays.{replay_past, replay_end}
 use Rattle.session.proofs.replaying.replay.Goals as goal
 
 -- One play is made.
-pub loop-i-preserved : goal.loop-i-preserved
-loop-i-preserved c =
-    record {
-      within = omega arith;
-      same = rw c.step-stepped.ensures.1 (replay_past _ _ _ c.loop-i-test.true ∙ c.loop-i.invariant.same);
-    }
+pub loop-pair-preserved : goal.loop-pair-preserved
+loop-pair-preserved c =
+    let inv = c.loop-pair.invariant in
+    let (size, (split, two), _) = c.in-Some.ensures.steps in
+    record { two = size ∙ inv.two; same = rw c.step.ensures.1 (replay_past _ _ _ (two ∙ inv.two) ∙ rw (← split) inv.same) }
 
 -- No play is left.
 pub returns : goal.returns
 returns c =
-    cc (replay_end _ _ _ c.loop-i-test.false)
+    let inv = c.loop-pair.invariant in
+    sym (replay_end _ _ (omega (arith, c.in-None.ensures.steps.1.0, inv.two))) ∙ inv.same

@@ -1,17 +1,12 @@
--- `session::replaying::replay` meets its contract. The loop's invariant: `i` is at most the length, and the plays from `i` on, made on the
--- record held, leave what all of them leave. The measure is what is left of the length. Assumes nothing.
-use Prim.Native.Nat.{◌≤◌, ◌-◌}
-use mathlib.Core.Path.{◌≡◌}
-use lib.ListN.{length, drop}
+-- The plays that are left, made on the record as it stands, leave what all of them leave.
+use Rattle.std.proofs.Common.{◌≡◌}
+use Rattle.std.specs.Slice.Iter.{chunks_exact_rest, chunks_exact_size}
 use Rattle.session.specs.Sessions.{record_after, calls_from}
 use Rattle.session.proofs.replaying.replay.Given as goal
 
-abbrev pub invariant-loop-i : goal.invariant-loop-i
-invariant-loop-i l =
+abbrev pub invariant-loop-pair : goal.invariant-loop-pair
+invariant-loop-pair l =
     record {
-      within : l.i ≤ length l.plays;
-      same : record_after l.held (calls_from (drop l.i l.plays)) ≡ record_after l.initial.held (calls_from l.plays);
+      two : chunks_exact_size l.pair-iterator ≡ 2;
+      same : record_after l.session (calls_from (chunks_exact_rest l.pair-iterator)) ≡ record_after l.initial.session (calls_from l.plays);
     }
-
-abbrev pub decreases-loop-i : goal.decreases-loop-i
-decreases-loop-i l = length l.plays - l.i
