@@ -1,4 +1,4 @@
-// Sessions played through Begin, Play and Report (documents 01 and 02): a line for each fact.
+// Sessions played through Begin, Play and Report: a line for each fact.
 #![tactic(auto)]
 
 mod boards;

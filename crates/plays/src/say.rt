@@ -1,47 +1,47 @@
-// A line for each play and each report.
+// A line for each play, each report and each record.
 use crate::same::{one_fumble_more, same_record};
-use session::{Session, play_on};
-use show::text;
+use session::Session;
+use show::Peg;
 use std::io;
 
-// Writes whether a play left the record as it was, in every field, or in every field but its fumbles, which are one more.
-fn difference(rt: &impl Print, before: Session, after: Session) -> io::Result<()> {
+// Whether a play left the record as it was, in every field, or in every field but its fumbles, which are one more.
+fn difference(before: &Session, after: &Session) -> &'static str {
     if same_record(before, after) {
-        return text(rt, b", unchanged");
+        return "unchanged";
     }
     if one_fumble_more(before, after) {
-        text(rt, b", one fumble more")
+        "one fumble more"
     } else {
-        text(rt, b", changed")
+        "changed"
     }
 }
 
-// Makes a play and writes its answer. Answers the record after it.
-pub fn play(rt: &impl Print, session: Session, from: u8, to: u8) -> io::Result<Session> {
-    text(rt, b"play ")?;
-    show::peg(rt, from)?;
-    text(rt, b" to ")?;
-    show::peg(rt, to)?;
-    text(rt, b": ")?;
-    let stepped = play_on(session, from, to);
-    let played = stepped.played;
-    show::played(rt, played)?;
-    let after = stepped.session;
-    difference(rt, session, after)?;
-    text(rt, b"\n")?;
-    Ok(after)
+// Makes a play and writes its answer.
+pub fn play(rt: &impl Print, session: &mut Session, from: u8, to: u8) -> io::Result<()> {
+    print!(rt; "play {} to {}: ", Peg(from), Peg(to))?;
+    let before = *session;
+    show::answer(rt, &session::play(session, from, to))?;
+    println!(rt; ", {}", difference(&before, session))
+}
+
+// Makes a list of plays, each a from and a to.
+pub fn plays(rt: &impl Print, session: &mut Session, plays: &[(u8, u8)]) -> io::Result<()> {
+    for (from, to) in plays {
+        play(rt, session, *from, *to)?;
+    }
+    Ok(())
 }
 
 // Writes Report's answer.
-pub fn report(rt: &impl Print, session: Session) -> io::Result<()> {
-    text(rt, b"report: ")?;
-    show::reported(rt, session::report(session))?;
-    text(rt, b"\n")
+pub fn report(rt: &impl Print, session: &Session) -> io::Result<()> {
+    print!(rt; "report: ")?;
+    show::answer(rt, &session::report(*session))?;
+    println!(rt)
 }
 
 // Writes a record.
-pub fn record(rt: &impl Print, session: Session) -> io::Result<()> {
-    text(rt, b"record: ")?;
+pub fn record(rt: &impl Print, session: &Session) -> io::Result<()> {
+    print!(rt; "record: ")?;
     show::record(rt, session)?;
-    text(rt, b"\n")
+    println!(rt)
 }

@@ -1,30 +1,18 @@
-// Document 01's task program: reads a task on standard input and writes its report, or its refusal, on standard output.
+// The task program: reads a task on standard input and writes its report, or its refusal, on standard output.
 #![tactic(auto)]
-
-ghost use Rattle.std.specs.Prelude.{◌≤◌, length};
 
 use std::io;
 use std::io::Read;
 
-// Reads until the buffer is full, the input ends or a read fails, and answers how many bytes it put at the start of the buffer.
-fn read_full(input: &mut impl Read, buffer: &mut [u8]) -> usize
-    ensures { result ≤ length buffer.new }
-{
-    let mut done = 0;
-    while done < buffer.len() {
-        match input.read(&mut buffer[done..]) {
-            Ok(0) => break,
-            Ok(n) => done += n,
-            Err(_) => break,
-        }
-    }
-    done
-}
+// The most bytes that are read: a task's, and one too many.
+const MOST: u64 = 513;
 
 fn main(rt: HostRuntime) -> io::Result<()> {
-    let mut input = [0; 513];
-    let n = read_full(&mut rt.stdin(), &mut input);
+    // Room for all of them first, so that the copy asks for no memory.
+    let mut input = Vec::with_capacity(rt.alloc(), MOST as usize)?;
+    // An input that cannot be read counts as one that ends there.
+    let _ = io::copy(&mut rt.stdin().take(MOST), &mut input);
     let mut page = [0; 8192];
-    let end = text::answer(&input[..n], &mut page);
+    let end = text::answer(&input, &mut page);
     rt.write_all(&page[..end])
 }

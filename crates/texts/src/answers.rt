@@ -1,10 +1,9 @@
 // An input's name, and what the task program answers to it.
 use std::io;
 
-pub fn answer_to(rt: &impl Print, name: &[u8], input: &[u8]) -> io::Result<()> {
+pub fn answer_to(rt: &impl Print, name: &str, input: &str) -> io::Result<()> {
     let mut page = [0; 8192];
-    let end = text::answer(input, &mut page);
-    show::text(rt, name)?;
-    show::text(rt, b":\n")?;
-    show::text(rt, &page[..end])
+    let end = text::answer(input.as_bytes(), &mut page);
+    println!(rt; "{name}:")?;
+    rt.write_all(&page[..end])
 }
