@@ -6,7 +6,7 @@ use std::io;
 
 // Where no disc is there.
 fn none(rt: &impl Print) -> io::Result<()> {
-    show::text(rt, b"on no discs\n")?;
+    println!(rt; "on no discs")?;
     let b = empty();
     say::remove(rt, b)?;
     say::add(rt, b, 3)?;
@@ -20,20 +20,16 @@ fn none(rt: &impl Print) -> io::Result<()> {
 
 // One disc below the limit: a peg above 2, and the last disc that there is room for.
 fn last(rt: &impl Print) -> io::Result<Builder> {
-    show::text(rt, b"on 59 discs\n")?;
-    let b = changes(
-        rt,
-        empty(),
-        true,
-        b"11020120110121200012121200221000020220110120101200010012111",
-    )?;
+    println!(rt; "on 59 discs")?;
+    let digits = b"11020120110121200012121200221000020220110120101200010012111";
+    let b = changes(rt, empty(), digits, builder::add)?;
     say::add(rt, b, 3)?;
     say::add(rt, b, 2)
 }
 
 // A full tower: 2 for a peg and for none, and a disc taken out of it.
 fn full(rt: &impl Print, b: Builder) -> io::Result<()> {
-    show::text(rt, b"on 60 discs\n")?;
+    println!(rt; "on 60 discs")?;
     say::add(rt, b, 0)?;
     say::add(rt, b, 3)?;
     let mut damaged = b;

@@ -1,4 +1,4 @@
-// Builders through Add and Remove (document 02, CR 9): a line for each fact.
+// Builders through Add and Remove: a line for each fact.
 #![tactic(auto)]
 
 mod damage;

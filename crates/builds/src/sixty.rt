@@ -1,48 +1,38 @@
 // Towers of 60 discs: after each disc added and after each removed the lengths are compared with Gather's.
 use crate::same::as_gather;
 use crate::say;
-use builder::{Builder, empty};
-use show::{named, text};
+use builder::{Builder, Built, add, empty, remove};
 use std::io;
 
-// The builder with a disc more, or with one less.
-fn changed(b: Builder, adds: bool, peg: u8) -> Builder {
-    let built = if adds {
-        builder::add(b, peg)
-    } else {
-        builder::remove(b)
-    };
-    built.builder
-}
-
-// Writes how many changes there were, and after how many of them the lengths were Gather's.
-fn told(rt: &impl Print, made: usize, times: u64) -> io::Result<()> {
-    named(rt, b"changes ", made as u64)?;
-    named(rt, b", as Gather ", times)?;
-    text(rt, b"\n")
-}
-
-// Makes a change for each digit: adds a disc on that peg, the smallest disc first, or removes one.
-pub fn changes(rt: &impl Print, b: Builder, adds: bool, digits: &[u8]) -> io::Result<Builder> {
+// Makes a change for each digit, which is a peg, and writes how many they are, and after how many of them the lengths are Gather's.
+pub fn changes<F: Fn(Builder, u8) -> Built + Drop>(
+    rt: &impl Print,
+    b: Builder,
+    digits: &[u8],
+    change: F,
+) -> io::Result<Builder>
+    requires { F.IsAlwaysCallable change }
+{
     let mut held = b;
-    let mut times: u64 = 0;
-    let mut i = 0;
-    while i < digits.len() {
-        held = changed(held, adds, digits[i] & 3);
-        times += as_gather(held) as u64;
-        i += 1;
+    let mut times = 0u64;
+    for digit in digits {
+        held = change(held, digit & 3).builder;
+        if as_gather(&held) {
+            times += 1;
+        }
     }
-    told(rt, digits.len(), times)?;
+    println!(rt; "changes {}, as Gather {times}", digits.len())?;
     Ok(held)
 }
 
 // Up from no discs, and down again.
 fn tower(rt: &impl Print, digits: &[u8]) -> io::Result<()> {
-    let whole = changes(rt, empty(), true, digits)?;
-    say::builder(rt, whole)?;
-    text(rt, b"\n")?;
-    say::builder(rt, changes(rt, whole, false, digits)?)?;
-    text(rt, b"\n")
+    let whole = changes(rt, empty(), digits, add)?;
+    say::builder(rt, &whole)?;
+    println!(rt)?;
+    let none = changes(rt, whole, digits, |b, _| remove(b))?;
+    say::builder(rt, &none)?;
+    println!(rt)
 }
 
 // All discs on C; round the pegs; and anywhere.

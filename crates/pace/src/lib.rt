@@ -11,10 +11,7 @@ ghost use Rattle.checker.specs.Answer.{checker_answer};
 ghost use Rattle.pace.specs.Counts.{counted, accepted, move_bytes, index_found};
 ghost use Rattle.word.specs.Words.{word as word_of};
 
-use board::Verdict;
-use checker::Checked;
-use parts::Ran;
-use route::{Located, Moving};
+use route::Located;
 
 // Parts: how many letters it wrote, or 0 where it refuses.
 #[unsafe(no_mangle)]
@@ -22,10 +19,7 @@ pub extern "C" fn pace_parts(task: &[u8], route: u64, first: u64, out: &mut [u8]
     ensures value { result ≡ counted (parts_answer task.now route first out.old) }
     ensures out_after { out.new ≡ parts_writes task.now route first out.old }
 {
-    match parts::parts(task, route, first, out) {
-        Ran::Moves(count) => count as u64,
-        Ran::Refused(_) => 0,
-    }
+    parts::parts(task, route, first, out).map_or(0, |count| count as u64)
 }
 
 // Begin on a task, and a list of plays on its record, each a from and a to: how many were accepted.
@@ -34,9 +28,7 @@ pub extern "C" fn pace_plays(task: &[u8], plays: &[u8]) -> u64
     ensures { result ≡ (record_after (session_or (begin_answer task.now)) (calls_from plays.now)).counts.made }
 {
     let begun = session::begin(task);
-    let after = session::replay(begun.session, plays);
-    let counts = after.counts;
-    counts.made
+    session::replay(begun.session, plays).counts.made
 }
 
 // Move: disc, from and to, as the three bytes of a number, or 0 where it refuses.
@@ -44,10 +36,9 @@ pub extern "C" fn pace_plays(task: &[u8], plays: &[u8]) -> u64
 pub extern "C" fn pace_move(task: &[u8], route: u64, index: u64) -> u64
     ensures { result ≡ counted (move_bytes task.now route index) }
 {
-    match route::move_at(task, route, index) {
-        Moving::Move(m, _) => m.disc as u64 % 256 * 65536 + m.from as u64 * 256 + m.to as u64,
-        Moving::Refused(_) => 0,
-    }
+    route::move_at(task, route, index).map_or(0, |(m, _)| {
+        m.disc as u64 % 256 * 65536 + m.from as u64 * 256 + m.to as u64
+    })
 }
 
 // Place: 1 where it is accepted, or 0 where it refuses.
@@ -56,10 +47,7 @@ pub extern "C" fn pace_place(task: &[u8], route: u64, index: u64, out: &mut [u8]
     ensures value { result ≡ accepted (place_answer task.now route index out.old) }
     ensures out_after { out.new ≡ place_writes task.now route index out.old }
 {
-    match route::place(task, route, index, out) {
-        Verdict::Accepted => 1,
-        Verdict::Refused(_) => 0,
-    }
+    route::place(task, route, index, out).is_ok() as u64
 }
 
 // Locate: the index of a position that is on route 0, or 0 where it is not or the call refuses.
@@ -68,9 +56,8 @@ pub extern "C" fn pace_locate(task: &[u8], position: &[u8]) -> u64
     ensures { result ≡ counted (index_found task.now position.now) }
 {
     match route::locate(task, position) {
-        Located::On { index, route } => if route == 0 { index } else { 0 },
-        Located::Off => 0,
-        Located::Refused(_) => 0,
+        Ok(Some(Located { index, route })) => if route == 0 { index } else { 0 },
+        Ok(None) | Err(_) => 0,
     }
 }
 
@@ -80,7 +67,7 @@ pub extern "C" fn pace_check(task: &[u8], letters: &[u8]) -> u64
     ensures { result ≡ word_of (checker_answer task.now letters.now) }
 {
     match checker::check_route(task, letters) {
-        Checked::Route(number) => number,
-        Checked::Refused(why) => word::refusal_word(why),
+        Ok(number) => number,
+        Err(why) => word::refusal_word(why),
     }
 }
