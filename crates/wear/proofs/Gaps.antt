@@ -31,7 +31,7 @@ byte_off i j = by (eqb i j)
 
 -- So a disc's moves.
 pub moves_counted : (p q : ℕ → ℕ) (k i j gaps : ℕ)
-    → gaps + bool_byte (not (eqb (p k) i)) + bool_byte (not (eqb (q k) j)) ≡ moves_of p q k i j gaps
+    → bool_byte (not (eqb (p k) i)) + bool_byte (not (eqb (q k) j)) + gaps ≡ moves_of p q k i j gaps
 moves_counted p q k i j gaps = omega (arith, byte_off (p k) i, byte_off (q k) j)
 
 -- The gaps after disc m come to what those before it come to in the end.

@@ -1,54 +1,42 @@
 // The wears of a route, from the largest disc downwards: no move is stepped through.
-ghost use Rattle.std.specs.Prelude.{◌++◌, ◌≡◌, ◌-◌, ◌<◌, ◌≤◌, length, take, drop, replicate};
+ghost use Rattle.std.specs.Prelude.{◌++◌, ◌≡◌, ◌-◌, ◌<◌, ◌≤◌, length, drop};
 ghost use Rattle.board.specs.Position.{peg};
 ghost use Rattle.route.specs.Route.{route_of};
 ghost use Rattle.wear.specs.Inner.Below.{wears_below, Writable};
 ghost use Rattle.wear.specs.Wear.{wears};
 
+use board::third;
+use plan::Task;
 use route::Opened;
 use route::course::is_detour;
 
-// Writes 0 for discs m + 1 to n.
-fn write_unmoved(m: usize, n: usize, out: &mut [u64])
-    requires { (m ≤ n) × (n ≤ length out.old) }
-    ensures { out.new ≡ (take m out.old ++ replicate (n - m) 0) ++ drop n out.old }
-{
-    let mut i = m;
-    while i < n {
-        out[i] = 0;
-        i += 1;
-    }
+// The moves of larger discs as the next disc meets them: its peg at the first of them, its peg at the last, and how many gaps there are
+// between one and the next.
+#[derive(Clone, Copy)]
+struct Gaps {
+    first: u8,
+    last: u8,
+    between: u64,
 }
 
-// Writes the wears of the k smallest discs. Between two moves of larger discs each of them moves once, to make way; before the first such
-// move, and after the last, once more where it is not on its target. `gaps` is how often a move of a disc larger than these follows
-// another, and `between` how often one of a disc larger than disc d does.
-fn write_smaller(
-    start: &[u8],
-    goal: &[u8],
-    k: usize,
-    start_target: u8,
-    goal_target: u8,
-    gaps: u64,
-    out: &mut [u64],
-)
-    requires { Writable start.now goal.now k start_target goal_target gaps out.old }
-    ensures { out.new ≡ wears_below (peg start.now) (peg goal.now) k start_target goal_target gaps ++ drop k out.old }
+// Writes the wears of the k smallest discs. A disc moves once in each gap, to make way, and once more before the first of the larger
+// discs' moves or after the last where it starts or ends elsewhere; each of its moves is one gap more for the next.
+#[tactic(auto, using(crate::proofs::Stored::moves_fit))]
+fn write_smaller(task: &Task, k: usize, above: Gaps, out: &mut [u64])
+    requires { Writable task.now.start.now task.now.goal.now k above out.old }
+    ensures { out.new ≡ wears_below (peg task.now.start.now) (peg task.now.goal.now) k above.first above.last above.between ++ drop k out.old }
 {
-    let mut first = start_target;
-    let mut last = goal_target;
-    let mut between = gaps;
-    let mut d = k;
-    while 0 < d {
-        let below = d - 1;
-        let x = start[below];
-        let y = goal[below];
-        let moves = between + (x != first) as u64 + (y != last) as u64;
-        out[below] = moves;
-        between += moves;
-        first = board::third(first, x);
-        last = board::third(last, y);
-        d = below;
+    let mut gaps = above;
+    for d in (0..k).rev() {
+        let x = task.start[d];
+        let y = task.goal[d];
+        let moves = (x != gaps.first) as u64 + (y != gaps.last) as u64 + gaps.between;
+        out[d] = moves;
+        gaps = Gaps {
+            first: third(gaps.first, x),
+            last: third(gaps.last, y),
+            between: gaps.between + moves,
+        };
     }
 }
 
@@ -57,27 +45,35 @@ fn write_moved(opened: &Opened, out: &mut [u64])
     requires { (0 < opened.now.plan.largest) × (opened.now.plan.largest ≤ length out.old) }
     ensures { out.new ≡ wears opened.now.plan.largest (route_of opened.now.task.start.now opened.now.task.goal.now opened.now.route) ++ drop opened.now.plan.largest out.old }
 {
-    let task = opened.task;
     let plan = opened.plan;
     let disc = plan.largest - 1;
-    if is_detour(plan.way, opened.route) {
-        out[disc] = 2;
-        write_smaller(task.start, task.goal, disc, plan.to, plan.from, 1, out);
+    let gaps = if is_detour(plan.way, opened.route) {
+        Gaps {
+            first: plan.to,
+            last: plan.from,
+            between: 1,
+        }
     } else {
-        let free = board::third(plan.from, plan.to);
-        out[disc] = 1;
-        write_smaller(task.start, task.goal, disc, free, free, 0, out);
-    }
+        let free = third(plan.from, plan.to);
+        Gaps {
+            first: free,
+            last: free,
+            between: 0,
+        }
+    };
+    out[disc] = gaps.between + 1;
+    write_smaller(&opened.task, disc, gaps, out);
 }
 
-// Writes the wear of each disc on a route.
+// Writes the wear of each disc on a route: 0 for those above the largest that moves.
+#[tactic(auto, using(crate::proofs::Stored::opened_largest))]
 pub fn write_wears(opened: &Opened, out: &mut [u64])
     requires { length opened.now.task.start.now ≤ length out.old }
     ensures { out.new ≡ wears (length opened.now.task.start.now) (route_of opened.now.task.start.now opened.now.task.goal.now opened.now.route) ++ drop (length opened.now.task.start.now) out.old }
 {
-    write_unmoved(opened.plan.largest, opened.task.discs(), out);
-    if opened.plan.largest == 0 {
-        return;
+    let largest = opened.plan.largest;
+    out[largest..opened.task.discs()].fill(0);
+    if 0 < largest {
+        write_moved(opened, out);
     }
-    write_moved(opened, out);
 }

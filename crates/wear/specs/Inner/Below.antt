@@ -2,8 +2,8 @@
 -- at the goal.
 use Rattle.std.specs.Prelude.{ℕ, zero, suc, ◌+◌, ◌^◌, ◌≤◌, ◌<◌, cond, List, [], ◌∷◌, ◌++◌, eqb, length}
 use Rattle.board.specs.Peg.{third}
-use Rattle.board.specs.Position.{WellFormed}
 use Rattle.plan.specs.Inner.Together.{added}
+use Rattle.wear.specs.declared.writing.Gaps.{Gaps}
 
 -- 1 where a disc on peg i is not on its target j, else 0.
 abbrev pub off_target : ℕ → ℕ → ℕ
@@ -19,13 +19,11 @@ wears_below p q zero i j gaps = []
 wears_below p q (suc k) i j gaps =
     wears_below p q k (third i (p k)) (third j (q k)) (gaps + moves_of p q k i j gaps) ++ (moves_of p q k i j gaps ∷ [])
 
--- They can be written: the discs and their entries are there, and the gaps, which in the end are `added`, fit 64 bits.
-pub record Writable (s t : List ℕ) (k i j gaps : ℕ) (out : List ℕ) : Type 0 where
-  pub start_there : k ≤ length s
-  pub goal_there : k ≤ length t
-  pub start_formed : WellFormed s
-  pub goal_formed : WellFormed t
-  pub start_target : i < 3
-  pub goal_target : j < 3
-  pub fits : added s t k i j gaps < 2 ^ 64
+-- They can be written: the discs and their entries are there, their targets are pegs, and the gaps, which in the end are `added`, fit 64
+-- bits.
+pub record Writable (s t : List ℕ) (k : ℕ) (above : Gaps) (out : List ℕ) : Type 0 where
+  pub there : k ≤ length s
+  pub first_peg : above.first < 3
+  pub last_peg : above.last < 3
+  pub fits : added s t k above.first above.last above.between < 2 ^ 64
   pub room : k ≤ length out

@@ -1,41 +1,26 @@
 -- The largest disc that moves crosses as often as its way says, and the smaller ones are written below it.
-use Prim.Native.Nat.{◌<◌}
 use mathlib.Core.Path.{◌∙◌, sym}
 use native.Mathlib.Omega.{arith}
-use lib.ListN.{length-set}
-use Rattle.board.proofs.Pegs.{third_peg}
-use Rattle.wear.proofs.Gaps.{detour_fits, direct_fits}
-use Rattle.wear.proofs.Stored.{moved_pegs, moved_ready, detour_written, direct_written}
+use Rattle.wear.proofs.Stored.{moved_pegs, detour_ready, direct_ready, detour_written, direct_written}
+use Rattle.wear.proofs.writing.write_moved.Goals.{then-is_detour, else-is_detour}
 use Rattle.wear.proofs.writing.write_moved.Goals as goal
+
+pub third-free-requires : goal.third-free-requires
+third-free-requires c = moved_pegs c.args.opened.now.task.ends c.args.opened.now.planned
 
 pub write_smaller-requires : goal.write_smaller-requires
 write_smaller-requires c =
     let o = c.args.opened.now in
-    let pegs = moved_pegs o.task.ends o.planned in
-    moved_ready o.task.ends o.planned c.requires.0 (simp length-set c.requires.1) pegs.1 pegs.0
-    (detour_fits _ _ o.planned _ c.requires.0 o.task.ends (sym c.is_detour.ensures ∙ c.if-is_detour.true) (omega arith))
+    elim c.if-is_detour.branch [
+      | then-is_detour w ↦ rw w.gaps-is (detour_ready o.task.ends o.planned o.route c.args.out.now c.requires.0 c.requires.1 (sym c.is_detour.ensures ∙ w.if-is_detour.true) (omega arith) _)
+      | else-is_detour w ↦ rw w.gaps-is (direct_ready o.task.ends o.planned o.route c.args.out.now c.requires.0 c.requires.1 (sym c.is_detour.ensures ∙ w.if-is_detour.false) w.third-free.ensures _)
+    ]
 
-pub third-free-requires : goal.third-free-requires
-third-free-requires c =
-    moved_pegs c.args.opened.now.task.ends c.args.opened.now.planned
-
-pub write_smaller-requires-else-is_detour : goal.write_smaller-requires-else-is_detour
-write_smaller-requires-else-is_detour c =
-    let o = c.args.opened.now in
-    let free : c.third-free.result < 3 = rw c.third-free.ensures (third_peg _ _ (moved_pegs o.task.ends o.planned).0) in
-    moved_ready o.task.ends o.planned c.requires.0 (simp length-set c.requires.1) free free
-    (direct_fits _ _ o.planned _ c.requires.0 o.task.ends (sym c.is_detour.ensures ∙ c.if-is_detour.false) c.third-free.ensures)
-
--- By a detour.
-pub returns-then-is_detour : goal.returns-then-is_detour
-returns-then-is_detour c =
+pub returns : goal.returns
+returns c =
     let o = c.args.opened.now in
     c.write_smaller.ensures
-    ∙ detour_written _ _ o.planned _ c.args.out.now o.task.ends c.requires.0 c.requires.1 (sym c.is_detour.ensures ∙ c.if-is_detour.true)
-
--- By the direct route.
-pub returns-else-is_detour : goal.returns-else-is_detour
-returns-else-is_detour c =
-    let o = c.args.opened.now in
-    c.write_smaller-else-is_detour.ensures
-    ∙ direct_written _ _ o.planned _ c.args.out.now o.task.ends c.requires.0 c.requires.1 (sym c.is_detour.ensures ∙ c.if-is_detour.false) c.third-free.ensures
+    ∙ elim c.if-is_detour.branch [
+      | then-is_detour w ↦ rw w.gaps-is (detour_written o.task.ends o.planned o.route c.args.out.now c.requires.0 c.requires.1 (sym c.is_detour.ensures ∙ w.if-is_detour.true))
+      | else-is_detour w ↦ rw w.gaps-is (direct_written o.task.ends o.planned o.route c.args.out.now c.requires.0 c.requires.1 (sym c.is_detour.ensures ∙ w.if-is_detour.false) w.third-free.ensures)
+    ]
