@@ -1,13 +1,13 @@
 -- What Batch answers, and when: the laws for whoever calls it.
 use Prim.Native.Nat.{ℕ, ◌*◌, ◌≤◌}
 use mathlib.Core.Bool.{not}
-use mathlib.Core.List.{List, ◌++◌, map}
+use mathlib.Core.List.{List, ◌++◌}
 use mathlib.Core.Path.{◌≡◌, sym}
 use native.Mathlib.Omega.{arith}
 use borrow.Author.Tests.{eqb-true, ltb-true, ltb-false, lt-ltb, not-false}
 use lib.Dec.{eqb, ltb}
 use lib.ListN.{length, drop, length-append, length-drop}
-use Rattle.board.specs.Fault.{First, Faultless, Obeys}
+use Rattle.board.specs.Fault.{Faultless, Obeys}
 use Rattle.board.specs.Reply.{refused, answer}
 use Rattle.board.specs.Task.{limit}
 use Rattle.board.proofs.Obeys.{answer_obeys, check_obeys, then_obeys}
@@ -15,7 +15,7 @@ use Rattle.board.proofs.Replies.{check_answered}
 use Rattle.word.specs.Words.{shortest_word}
 use Rattle.batch.specs.Answer.{batch_answer, batch_writes}
 use Rattle.batch.specs.Faults.{batch_faults}
-use Rattle.batch.specs.Tasks.{cut, tasks_in, entries_of}
+use Rattle.batch.specs.Tasks.{tasks_in, entries_of}
 use Rattle.batch.proofs.Cuts.{cut_length, not_covered}
 
 -- Demand 1: Batch is refused as its faults say and never else, and a refusal leaves the buffer as it stood.
@@ -30,11 +30,6 @@ batch_obeys n b out =
 pub batch_kept : (n : ℕ) (b out : List ℕ) {k : ℕ} → batch_answer n b out ≡ refused k → batch_writes n b out ≡ out
 unfolding batch_writes
 batch_kept n b out e = rw e
-
--- Of the first fault, both.
-pub batch_refuses : (n : ℕ) (b out : List ℕ) {k : ℕ} → First (batch_faults n b out) k
-    → (refused k ≡ batch_answer n b out) × (out ≡ batch_writes n b out)
-batch_refuses n b out {k} first = let e = ((batch_obeys n b out).refuses k).1 first in (sym e, sym (batch_kept n b out e))
 
 -- An answered Batch: the tasks are of at most `limit` discs and make up the whole buffer, and their entries, which fit, come before what
 -- the buffer had.
@@ -71,12 +66,6 @@ pub batch_accepts : (n : ℕ) (b out : List ℕ) → Faultless (batch_faults n b
 batch_accepts n b out none =
     let (k, answered) = (batch_obeys n b out).answers none in
     rw (batch_answered n b out answered).count answered
-
--- And it writes their entries.
-pub batch_passes : (n : ℕ) (b out : List ℕ) {k : ℕ} → Faultless (batch_faults n b out) → k ≡ tasks_in n (length b)
-    → (answer k ≡ batch_answer n b out) × (map shortest_word (cut (2 * n) k b) ++ drop k out ≡ batch_writes n b out)
-batch_passes n b out clear e =
-    let answered = batch_accepts n b out clear in rw e (sym answered, sym (batch_answered n b out answered).wrote)
 
 -- Which bytes there are is nothing to the reply, only how many.
 pub batch_by_length : (n : ℕ) (b c out : List ℕ) → length c ≡ length b → batch_answer n c out ≡ batch_answer n b out

@@ -1,8 +1,8 @@
 -- Laws of tasks laid end to end: which bytes each has, how many there are, and what one more adds.
-use Prim.Native.Nat.{ℕ, zero, suc, ◌+◌, ◌-◌, ◌*◌, ◌/◌, ◌<◌, ◌≤◌}
+use Prim.Native.Nat.{ℕ, zero, suc, ◌+◌, ◌*◌, ◌<◌, ◌≤◌}
 use mathlib.Core.Bool.{true, not}
 use mathlib.Core.List.{List, [], ◌∷◌, ◌++◌, map}
-use mathlib.Core.Logic.{◌≢◌, ◌↔◌}
+use mathlib.Core.Logic.{◌↔◌}
 use mathlib.Core.Path.{◌≡◌, ◌∙◌, refl, sym, ap}
 use native.Mathlib.Nat.{mul-zero, mul-suc, mul_comm, mul-le-mul_right, div-mul-le_self, div-eq_of_eq-mul_left}
 use native.Mathlib.Omega.{arith}
@@ -22,14 +22,6 @@ next_piece size i b = let next : size + size * i ≡ size * suc i = omega (arith
 -- Piece i of k lies within them.
 pub piece_within : (size i k : ℕ) → i < k → size * i + size ≤ k * size
 piece_within size i k h = rw (← mul-suc size i, mul_comm size (suc i)) (mul-le-mul_right size h)
-
--- Where it ends the next begins.
-pub piece_end : (size i at : ℕ) → at ≡ size * i → at + size ≡ size * (i + 1)
-piece_end size i at e = let next : i + 1 ≡ suc i = omega arith in rw (next, mul-suc size i, e)
-
--- What is read from its offset to its end is the piece.
-pub piece_read : (size i at : ℕ) (b : List ℕ) → at ≡ size * i → take (at + size - at) (drop at b) ≡ take size (drop (size * i) b)
-piece_read size i at b e = let long : at + size - at ≡ size = omega arith in rw (long, e)
 
 module _ (f : List ℕ → ℕ) (size : ℕ) where
   -- What is made of so many pieces are so many numbers.
@@ -59,19 +51,14 @@ module _ (f : List ℕ → ℕ) (size : ℕ) where
       let added : map f (cut size (k + 1) b) ≡ map f (cut size k b) ++ (f (take size (drop (size * k) b)) ∷ []) = rw next (cut_more k b) in
       rw (held, piece, added) (stored (map f (cut size k b)) (f (take size (drop (size * k) b)) ∷ []) o k (cut_length k b) (omega arith))
 
--- Of some discs there are as many as fit.
-pub tasks_some : (n bytes : ℕ) → n ≢ 0 → tasks_in n bytes ≡ bytes / (2 * n)
-tasks_some zero bytes h = absurd (h refl)
-tasks_some (suc n) bytes h = refl
-
--- They have no more bytes than the buffer.
+-- The tasks have no more bytes than the buffer.
 pub tasks_within : (n bytes : ℕ) {k : ℕ} → k ≡ tasks_in n bytes → k * (2 * n) ≤ bytes
 tasks_within zero bytes {k} e = omega (arith, mul-zero k)
 tasks_within (suc n) bytes e = rw e (div-mul-le_self bytes (2 * suc n))
 
 -- They make it up exactly where its length is a multiple of theirs.
-pub whole_covered : (n : ℕ) (b : List ℕ) {k : ℕ} → k ≡ tasks_in n (length b) → (k * (2 * n) ≡ length b) ↔ Whole n b
-whole_covered n b {k} count = ((λ e. (k, sym e)), λ (j, e). rw count (by n j e))
+whole_covered : (n : ℕ) (b : List ℕ) → (tasks_in n (length b) * (2 * n) ≡ length b) ↔ Whole n b
+whole_covered n b = ((λ e. (tasks_in n (length b), sym e)), λ (j, e). by n j e)
   where
     by : (n j : ℕ) → length b ≡ j * (2 * n) → tasks_in n (length b) * (2 * n) ≡ length b
     by zero j e = sym (e ∙ mul-zero j)
@@ -82,6 +69,6 @@ pub not_covered : (n : ℕ) (b : List ℕ) → (not (eqb (tasks_in n (length b) 
 not_covered n b =
     let covered = tasks_in n (length b) * (2 * n) in
     let found : (eqb covered (length b) ≡ true) ↔ Whole n b =
-    ((λ e. (whole_covered n b refl).0 (eqb-true covered (length b) e)), λ w. eq-eqb covered (length b) ((whole_covered n b refl).1 w)) in
+    ((λ e. (whole_covered n b).0 (eqb-true covered (length b) e)), λ w. eq-eqb covered (length b) ((whole_covered n b).1 w)) in
     let missed = fails (eqb covered (length b)) found in
     ((λ e. missed.0 (not-true (eqb covered (length b)) e)), λ none. ap not (missed.1 none))

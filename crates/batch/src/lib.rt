@@ -21,6 +21,7 @@ fn tasks_in(n: usize, bytes: usize) -> usize
 
 // Batch: writes the shortest length of each of many tasks of n discs, laid end to end, as C gets it from the single call, and answers how
 // many tasks there are; later entries stay. Refuses with 2, 13 and 6, and then writes nothing.
+#[tactic(auto, using(std::proofs::lemmas::Bool::Decides::nat_tests, crate::proofs::Cuts::tasks_within), unfolding(crate::specs::Answer::batch_answer, crate::specs::Answer::batch_writes))]
 pub fn batch(n: u64, tasks: &[u8], out: &mut [u64]) -> Result<usize, Refusal>
     ensures result_value { reply_of result ≡ batch_answer n tasks.now out.old }
     ensures out_after { out.new ≡ batch_writes n tasks.now out.old }
@@ -37,6 +38,6 @@ pub fn batch(n: u64, tasks: &[u8], out: &mut [u64]) -> Result<usize, Refusal>
     if out.len() < count {
         return Err(Refusal::ShortBuffer);
     }
-    entries::write_entries(tasks, size, count, out);
+    entries::write_entries(tasks, size, &mut out[..count]);
     Ok(count)
 }
