@@ -4,7 +4,7 @@
 use Prim.Native.Nat.{ℕ, ◌+◌, ◌≤◌}
 use mathlib.Core.Bool.{true, ◌&&◌, and-eq-true_iff}
 use mathlib.Core.Logic.{◌≢◌, ◌↔◌}
-use mathlib.Core.Path.{◌≡◌, refl}
+use mathlib.Core.Path.{◌≡◌}
 use native.Mathlib.Omega.{arith}
 use Rattle.std.proofs.lemmas.Bool.Decides.{nat_tests}
 use Rattle.session.specs.Counts.{play_limit, no_plays, mark_of, counted, counts_agree, marks_agree, Account, excess_of, Excess}
@@ -40,7 +40,7 @@ module _ {c : Counts} {now first : ℕ} where
 
 -- It holds at first.
 pub account_first : (first : ℕ) → Account no_plays first first
-account_first first = record { sum = refl; within = omega arith; marks = refl }
+account_first first = omega arith
 
 -- A play keeps it.
 pub account_played : {c : Counts} {now after first : ℕ} → after ≤ now + 1 → now ≤ after + 1 → c.made ≢ play_limit
@@ -49,7 +49,7 @@ unfolding counted
 account_played {now = now} {after = after} further nearer more a =
     let one = mark_one (mark_of now after) in
     let balance = mark_balance now after further nearer in
-    record { sum = omega arith; within = omega arith; marks = omega arith }
+    omega arith
 
 -- Its excess: made is toward + level + away, and the fewest at the start less the fewest now is toward − away, which leaves level + 2 × away.
 pub account_excess : {c : Counts} {now first : ℕ} → Account c now first → Excess (excess_of c now first) c now first

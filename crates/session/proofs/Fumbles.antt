@@ -4,9 +4,7 @@ use Prim.Native.Nat.{ℕ, ◌+◌, ◌≤◌}
 use mathlib.Core.Bool.{Bool, true, false, cond}
 use mathlib.Core.Logic.{◌≢◌, ◌⊎◌, inl, inr, ◌↔◌}
 use mathlib.Core.Path.{◌≡◌, refl}
-use native.Mathlib.Decide.{ℕ_discrete}
 use native.Mathlib.Omega.{arith}
-use borrow.Author.Tests.{ne_eqb}
 use lib.Dec.{eqb}
 use Rattle.std.proofs.lemmas.Bool.Decides.{nat_tests}
 use Rattle.board.specs.Reply.{refused, ◌>>◌, Check, check}
@@ -16,34 +14,19 @@ use Rattle.session.specs.declared.counting.Counts.{Counts}
 
 -- Refused with 8 or 9, a play adds one.
 pub fumble_one : (k : ℕ) → (k ≡ 8) ⊎ (k ≡ 9) → fumble k ≡ 1
-fumble_one k (inl e) = rw e refl
-fumble_one k (inr e) = rw e refl
+fumble_one k e = grind (arith, nat_tests)
 
 -- With any other number it adds none.
 pub fumble_none : (k : ℕ) → k ≢ 8 → k ≢ 9 → fumble k ≡ 0
-fumble_none k no_8 no_9 = rw (ne_eqb k 8 no_8, ne_eqb k 9 no_9)
+fumble_none k no_8 no_9 = grind (arith, nat_tests)
 
 -- So it adds what a count of 8 and a count of 9 add together.
 pub fumble_both : (k : ℕ) → fumble k ≡ cond (eqb k 8) 1 0 + cond (eqb k 9) 1 0
-fumble_both k =
-    elim (ℕ_discrete k 8) [
-      | yes e ↦ rw (fumble_one k (inl e), e) refl
-      | no n ↦ elim (ℕ_discrete k 9) [
-        | yes e ↦ rw (fumble_one k (inr e), e) refl
-        | no o ↦ rw (fumble_none k n o, ne_eqb k 8 n, ne_eqb k 9 o)
-      ]
-    ]
+fumble_both k = grind (arith, nat_tests)
 
 -- It adds at most one.
 fumble_most : (k : ℕ) → fumble k ≤ 1
-fumble_most k =
-    elim (ℕ_discrete k 8) [
-      | yes e ↦ rw (fumble_one k (inl e)) (omega arith)
-      | no n ↦ elim (ℕ_discrete k 9) [
-        | yes e ↦ rw (fumble_one k (inr e)) (omega arith)
-        | no o ↦ rw (fumble_none k n o) (omega arith)
-      ]
-    ]
+fumble_most k = grind (arith, nat_tests)
 
 module _ (c : Counts) (fumbles : ℕ) where
   -- A record is full exactly where made or the fumbles stand at the limit.

@@ -1,9 +1,8 @@
 -- Laws of marks: what each says of the fewest to the goal, and of the counts.
 use Prim.Native.Nat.{ℕ, ◌+◌, ◌≤◌, ◌<◌}
 use mathlib.Core.Path.{◌≡◌, refl}
-use native.Mathlib.Decide.{dec_lt}
 use native.Mathlib.Omega.{arith}
-use borrow.Author.Tests.{lt-ltb, le-ltb}
+use Rattle.std.proofs.lemmas.Bool.Decides.{nat_tests}
 use Rattle.session.specs.Counts.{mark_of, is_mark}
 use Rattle.session.specs.Demand3.{Says}
 use Rattle.session.specs.declared.counting.Mark.{Mark}
@@ -18,29 +17,22 @@ mark_one Away = refl
 -- A play that brings the goal nearer is toward.
 mark_toward : (before after : ℕ) → after < before → mark_of before after ≡ Toward
 unfolding mark_of
-mark_toward before after h = rw (lt-ltb after before h)
+mark_toward before after h = grind (arith, nat_tests)
 
 -- A play that leaves the goal as far is level.
 mark_level : (before after : ℕ) → after ≡ before → mark_of before after ≡ Level
 unfolding mark_of
-mark_level before after e = rw (le-ltb after before (omega arith), le-ltb before after (omega arith))
+mark_level before after e = grind (arith, nat_tests)
 
 -- A play that takes the goal further is away.
 mark_away : (before after : ℕ) → before < after → mark_of before after ≡ Away
 unfolding mark_of
-mark_away before after h = rw (le-ltb after before (omega arith), lt-ltb before after h)
+mark_away before after h = grind (arith, nat_tests)
 
 module _ (before after : ℕ) (further : after ≤ before + 1) (nearer : before ≤ after + 1) where
   -- A mark makes up for what the play does to the fewest.
   pub mark_balance : is_mark Toward (mark_of before after) + after ≡ is_mark Away (mark_of before after) + before
-  mark_balance =
-      elim (dec_lt after before) [
-        | yes h ↦ rw (mark_toward before after h) (omega arith)
-        | no n ↦ elim (dec_lt before after) [
-          | yes h ↦ rw (mark_away before after h) (omega arith)
-          | no k ↦ rw (mark_level before after (omega arith)) (omega arith)
-        ]
-      ]
+  mark_balance = grind (arith, mark_toward before after, mark_level before after, mark_away before after)
 
   -- It says whether the fewest fell by one, stayed, or rose by one.
   pub mark_says : Says (mark_of before after) before after
