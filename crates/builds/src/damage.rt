@@ -40,12 +40,9 @@ fn lengths(rt: &impl Print, b: Builder) -> io::Result<()> {
     damaged(rt, b, "the length for A is one more", |b| b.lengths[0] = 3)?;
     damaged(rt, b, "the length for B is one more", |b| b.lengths[1] = 2)?;
     damaged(rt, b, "the length for C is one more", |b| b.lengths[2] = 4)?;
-    damaged(
-        rt,
-        b,
-        "the lengths for A and C are exchanged",
-        |b| b.lengths.swap(0, 2),
-    )
+    damaged(rt, b, "the lengths for A and C are exchanged", |b| {
+        b.lengths.swap(0, 2);
+    })
 }
 
 // The builder of [2, 1], sound and then damaged in each field.

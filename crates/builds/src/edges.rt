@@ -1,7 +1,7 @@
 // Each refusal at its edge: 19, 3 and 2, and 10 before them.
 use crate::say;
 use crate::sixty::changes;
-use builder::{Builder, empty};
+use builder::{Builder, add, empty};
 use std::io;
 
 // Where no disc is there.
@@ -22,7 +22,7 @@ fn none(rt: &impl Print) -> io::Result<()> {
 fn last(rt: &impl Print) -> io::Result<Builder> {
     println!(rt; "on 59 discs")?;
     let digits = b"11020120110121200012121200221000020220110120101200010012111";
-    let b = changes(rt, empty(), digits, builder::add)?;
+    let b = changes(rt, empty(), digits, |b, peg| add(b, peg))?;
     say::add(rt, b, 3)?;
     say::add(rt, b, 2)
 }

@@ -6,12 +6,10 @@ use std::io;
 
 // A builder: its number of discs, its position, and its length for each peg.
 pub fn builder(rt: &impl Print, b: &Builder) -> io::Result<()> {
-    let position = held(b.n, &b.position);
+    let n = b.n;
+    let position = held(n, &b.position);
     let [on_a, on_b, on_c] = b.lengths;
-    print!(rt;
-        "n {}, position {position}, A {on_a}, B {on_b}, C {on_c}",
-        b.n
-    )
+    print!(rt; "n {n}, position {position}, A {on_a}, B {on_b}, C {on_c}")
 }
 
 // The answer to a change and what it left. Answers the builder after it.
@@ -24,10 +22,8 @@ fn change(rt: &impl Print, before: Builder, built: Built) -> io::Result<Builder>
     }
     print!(rt; ", ")?;
     builder(rt, &after)?;
-    println!(rt;
-        ", {}as Gather",
-        if as_gather(&after) { "" } else { "not " }
-    )?;
+    let which = if as_gather(&after) { "as" } else { "not as" };
+    println!(rt; ", {which} Gather")?;
     Ok(after)
 }
 

@@ -27,7 +27,7 @@ pub fn changes<F: Fn(Builder, u8) -> Built + Drop>(
 
 // Up from no discs, and down again.
 fn tower(rt: &impl Print, digits: &[u8]) -> io::Result<()> {
-    let whole = changes(rt, empty(), digits, add)?;
+    let whole = changes(rt, empty(), digits, |b, peg| add(b, peg))?;
     say::builder(rt, &whole)?;
     println!(rt)?;
     let none = changes(rt, whole, digits, |b, _| remove(b))?;

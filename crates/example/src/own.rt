@@ -24,13 +24,13 @@ pub fn leads_back(task: &[u8], route: u64, index: u64) -> bool
     ensures { result ≡ true }
 {
     let mut pegs = [0; LIMIT];
-    if route::place(task, route, index, &mut pegs).is_err() {
-        return true;
-    }
-    let n = task.len() / 2;
-    match route::locate(task, &pegs[..n]) {
-        Ok(Some(found)) => found.index == index,
-        _ => false,
+    match route::place(task, route, index, &mut pegs) {
+        Err(_) => true,
+        Ok(()) => match route::locate(task, &pegs[..task.len() / 2]) {
+            Ok(Some(found)) => found.index == index,
+            Ok(None) => false,
+            Err(_) => false,
+        },
     }
 }
 

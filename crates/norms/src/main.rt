@@ -13,8 +13,7 @@ fn main(rt: HostRuntime) -> io::Result<()> {
 
 // The line of a size.
 fn line(rt: &impl Print, n: u64) -> io::Result<()> {
-    match averages::totals(n) {
-        Ok(totals) => println!(rt; "{n} discs: sum {}, ties {}", totals.sum, totals.ties),
-        Err(why) => println!(rt; "{n} discs: {why}"),
-    }
+    print!(rt; "{n} discs: ")?;
+    show::answer(rt, &averages::totals(n))?;
+    println!(rt)
 }

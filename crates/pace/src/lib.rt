@@ -66,8 +66,5 @@ pub extern "C" fn pace_locate(task: &[u8], position: &[u8]) -> u64
 pub extern "C" fn pace_check(task: &[u8], letters: &[u8]) -> u64
     ensures { result ≡ word_of (checker_answer task.now letters.now) }
 {
-    match checker::check_route(task, letters) {
-        Ok(number) => number,
-        Err(why) => word::refusal_word(why),
-    }
+    word::word_of(checker::check_route(task, letters))
 }

@@ -21,30 +21,18 @@ fn damaged<F: FnOnce(&mut Session)>(
 
 // Damaged positions: an unused byte of each set to 1, and a used byte set to 3.
 fn positions(rt: &impl Print, session: &Session) -> io::Result<()> {
-    damaged(
-        rt,
-        session,
-        "an unused byte of start is 1",
-        |s| s.start[59] = 1,
-    )?;
-    damaged(
-        rt,
-        session,
-        "an unused byte of goal is 1",
-        |s| s.goal[59] = 1,
-    )?;
-    damaged(
-        rt,
-        session,
-        "an unused byte of current is 1",
-        |s| s.current[59] = 1,
-    )?;
-    damaged(
-        rt,
-        session,
-        "a used byte of current is 3",
-        |s| s.current[0] = 3,
-    )
+    damaged(rt, session, "an unused byte of start is 1", |s| {
+        s.start[59] = 1;
+    })?;
+    damaged(rt, session, "an unused byte of goal is 1", |s| {
+        s.goal[59] = 1;
+    })?;
+    damaged(rt, session, "an unused byte of current is 1", |s| {
+        s.current[59] = 1;
+    })?;
+    damaged(rt, session, "a used byte of current is 3", |s| {
+        s.current[0] = 3;
+    })
 }
 
 // A damaged n, and damaged counts: n is 61, or one of the counts is one more.
@@ -60,12 +48,9 @@ fn numbers(rt: &impl Print, session: &Session) -> io::Result<()> {
 fn fumbles_and_remaining(rt: &impl Print, session: &Session) -> io::Result<()> {
     damaged(rt, session, "remaining is one more", |s| s.remaining = 3)?;
     damaged(rt, session, "remaining is one less", |s| s.remaining = 1)?;
-    damaged(
-        rt,
-        session,
-        "fumbles are 1000001",
-        |s| s.fumbles = PLAY_LIMIT + 1,
-    )
+    damaged(rt, session, "fumbles are 1000001", |s| {
+        s.fumbles = PLAY_LIMIT + 1;
+    })
 }
 
 // Counts that add up, and yet no plays lead to them: one toward too many for the position, and more plays than a record counts.

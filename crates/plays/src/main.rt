@@ -6,7 +6,6 @@ mod damage;
 mod excess;
 mod fumbles;
 mod limit;
-mod same;
 mod say;
 mod tasks;
 mod whole;

@@ -1,15 +1,16 @@
 // A line for each play, each report and each record.
-use crate::same::{one_fumble_more, same_record};
 use session::Session;
 use show::Peg;
 use std::io;
 
 // Whether a play left the record as it was, in every field, or in every field but its fumbles, which are one more.
 fn difference(before: &Session, after: &Session) -> &'static str {
-    if same_record(before, after) {
+    if after == before {
         return "unchanged";
     }
-    if one_fumble_more(before, after) {
+    let fumbles = before.fumbles.saturating_add(1);
+    let more = Session { fumbles, ..*before };
+    if *after == more {
         "one fumble more"
     } else {
         "changed"

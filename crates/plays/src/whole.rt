@@ -1,5 +1,4 @@
 // A session along a whole shortest route, with refused plays in between, and one play past the goal.
-use crate::same::same_record;
 use crate::say;
 use session::{Session, begin, replay};
 use std::io;
@@ -20,11 +19,9 @@ const PLAYS: [(u8, u8); 8] = [
 // The same plays in one call, with a last byte by itself.
 fn replayed(rt: &impl Print, first: &Session, after: &Session) -> io::Result<()> {
     let plays = b"\x03\x00\x00\x03\x01\x02\x00\x00\x00\x02\x00\x01\x00\x02\x02\x00\x01";
-    let same = same_record(&replay(*first, plays), after);
-    println!(rt;
-        "replayed: {} record",
-        if same { "the same" } else { "another" }
-    )
+    let same = replay(*first, plays) == *after;
+    let which = if same { "the same" } else { "another" };
+    println!(rt; "replayed: {which} record")
 }
 
 // The whole route, its report, and a play past the goal.

@@ -1,67 +1,48 @@
--- `example::own::leads_back` meets its contract: an accepted Place fits the buffer, and Locate gives its index back. Assumes nothing.
-use Prim.Native.Nat.{ℕ}
+-- `example::own::leads_back` meets its contract: an accepted Place fits the buffer, and Locate gives its index back.
+use Prim.Native.Nat.{ℕ, ◌≤◌}
 use mathlib.Core.List.{List}
-use mathlib.Core.Path.{◌≡◌, ◌∙◌, sym, ap}
-use borrow.Author.Rules.{rules}
+use mathlib.Core.Path.{◌≡◌, ◌∙◌, sym}
 use borrow.Author.Tests.{eq-eqb}
-use lib.ListN.{take, replicate}
+use lib.ListN.{length, take, replicate}
 use lib.Seq.{length-take-le}
-use Rattle.board.specs.Refusal.{reply_of}
 use Rattle.board.specs.Reply.{answer, pass}
 use Rattle.board.specs.Task.{limit, discs}
 use Rattle.board.proofs.Replies.{refused_answer}
-use Rattle.route.specs.Answer.{on, place_answer, locate_answer, locate_reply}
+use Rattle.route.specs.Answer.{on, place_answer, place_writes, locate_answer}
 use Rattle.route.proofs.Calls.Answers.{on_same, off_on, place_answered, place_located}
 use Rattle.example.proofs.own.leads_back.Goals as goal
 
--- So the n discs are within its buffer, which keeps its size.
-pub slice_bounds-pegs-end : goal.slice_bounds-pegs-end
-slice_bounds-pegs-end c =
-    let accepted : place_answer c.args.task.now c.args.route c.args.index (replicate limit 0) ≡ pass =
-    sym c.place.ensures.result_value ∙ ap reply_of c.in-Accepted.is in
-    let placed = place_answered _ _ _ _ (accepted) in
-    rw (c.place.ensures.out_after, placed.sized) placed.within
+-- What Place leaves in the buffer that it accepts, of 60 bytes, has room for the n discs.
+placed_within : (t : List ℕ) (r i : ℕ) {pegs : List ℕ} → pass ≡ place_answer t r i (replicate limit 0)
+    → pegs ≡ place_writes t r i (replicate limit 0) → discs t ≤ length pegs
+placed_within t r i accepted wrote =
+    let placed = place_answered t _ _ _ (sym accepted) in rw (wrote, placed.sized) placed.within
 
--- What is read of the buffer is n bytes.
+-- Locate finds them at the index.
+placed_found : (t : List ℕ) (r i : ℕ) {pegs : List ℕ} → pass ≡ place_answer t r i (replicate limit 0)
+    → pegs ≡ place_writes t r i (replicate limit 0) → (l : ℕ) × (locate_answer t (take (discs t) pegs) ≡ answer (on i l))
+placed_found t r i accepted wrote =
+    let (l, low, found) = place_located t _ _ _ (sym accepted) in (l, rw wrote found)
+
+pub slice_bounds-pegs-end : goal.slice_bounds-pegs-end
+slice_bounds-pegs-end c = placed_within c.args.task.now _ _ c.in-Ok.ensures.result_value c.place.ensures.out_after
+
+-- What Locate reads is n bytes.
 pub slice_bounds-locate-end : goal.slice_bounds-locate-end
 slice_bounds-locate-end c =
-    let accepted : place_answer c.args.task.now c.args.route c.args.index (replicate limit 0) ≡ pass =
-    sym c.place.ensures.result_value ∙ ap reply_of c.in-Accepted.is in
-    let placed = place_answered _ _ _ _ accepted in
-    sym (length-take-le _ _ (rw (c.place.ensures.out_after, placed.sized) placed.within))
+    sym (length-take-le _ _ (placed_within c.args.task.now _ _ c.in-Ok.ensures.result_value c.place.ensures.out_after))
 
-pub returns-in-On : goal.returns-in-On
-returns-in-On c =
-    let accepted : place_answer c.args.task.now c.args.route c.args.index (replicate limit 0) ≡ pass =
-    sym c.place.ensures.result_value ∙ ap reply_of c.in-Accepted.is in
-    let located : (l : ℕ) × (locate_reply c.locate.result ≡ answer (on c.args.index l)) =
-    let task = c.args.task.now in
-    let wrote = c.place.ensures.out_after in
-    let (l, low, found) = place_located _ _ _ _ (accepted) in
-    (l, c.locate.ensures ∙ ap (λ (pegs : List ℕ). locate_answer task (take (discs task) pegs)) wrote ∙ found) in
-    let (l, found) = located in
-    eq-eqb _ _ (on_same (sym (ap locate_reply c.in-On.is) ∙ found)).0
+pub returns-in-Ok-Some : goal.returns-in-Ok-Some
+returns-in-Ok-Some c =
+    let (l, found) = placed_found c.args.task.now _ _ c.in-Ok.ensures.result_value c.place.ensures.out_after in
+    eq-eqb _ _ (on_same (rw c.in-Ok-Some.field-0-is at c.in-Ok-Some.ensures ∙ found)).0
 
-pub returns-in-Off : goal.returns-in-Off
-returns-in-Off c =
-    let accepted : place_answer c.args.task.now c.args.route c.args.index (replicate limit 0) ≡ pass =
-    sym c.place.ensures.result_value ∙ ap reply_of c.in-Accepted.is in
-    let located : (l : ℕ) × (locate_reply c.locate.result ≡ answer (on c.args.index l)) =
-    let task = c.args.task.now in
-    let wrote = c.place.ensures.out_after in
-    let (l, low, found) = place_located _ _ _ _ (accepted) in
-    (l, c.locate.ensures ∙ ap (λ (pegs : List ℕ). locate_answer task (take (discs task) pegs)) wrote ∙ found) in
-    let (l, found) = located in
-    absurd (off_on (sym (ap locate_reply c.in-Off.is) ∙ found))
+pub returns-in-Ok-None : goal.returns-in-Ok-None
+returns-in-Ok-None c =
+    let (l, found) = placed_found c.args.task.now _ _ c.in-Ok.ensures.result_value c.place.ensures.out_after in
+    absurd (off_on (rw c.in-Ok-None.field-0-is at c.in-Ok-None.ensures ∙ found))
 
-pub returns-in-Refused-locate : goal.returns-in-Refused-locate
-returns-in-Refused-locate c =
-    let accepted : place_answer c.args.task.now c.args.route c.args.index (replicate limit 0) ≡ pass =
-    sym c.place.ensures.result_value ∙ ap reply_of c.in-Accepted.is in
-    let located : (l : ℕ) × (locate_reply c.locate.result ≡ answer (on c.args.index l)) =
-    let task = c.args.task.now in
-    let wrote = c.place.ensures.out_after in
-    let (l, low, found) = place_located _ _ _ _ (accepted) in
-    (l, c.locate.ensures ∙ ap (λ (pegs : List ℕ). locate_answer task (take (discs task) pegs)) wrote ∙ found) in
-    let (l, found) = located in
-    absurd (refused_answer (sym (ap locate_reply c.in-Refused-locate.is) ∙ found))
+pub returns-in-Err-locate : goal.returns-in-Err-locate
+returns-in-Err-locate c =
+    let (l, found) = placed_found c.args.task.now _ _ c.in-Ok.ensures.result_value c.place.ensures.out_after in
+    absurd (refused_answer (c.in-Err-locate.ensures ∙ found))
