@@ -9,7 +9,7 @@ ghost use Rattle.route.specs.Answer.{run_writes};
 ghost use Rattle.word.specs.Words.{shortest_word, Tells};
 ghost use Rattle.towers.specs.Words.{routes_word, gather_word, run_word, batch_word};
 
-use word::{refusal_word, shortest_word};
+use word::{shortest_word, word_of};
 
 // Plan's shortest: the fewest moves of a task.
 #[unsafe(no_mangle)]
@@ -24,10 +24,7 @@ pub extern "C" fn tower_shortest(task: &[u8]) -> u64
 pub extern "C" fn tower_routes(task: &[u8]) -> u64
     ensures { result ≡ routes_word task.now }
 {
-    match plan::plan(task) {
-        Ok(plan) => plan.routes(),
-        Err(why) => refusal_word(why),
-    }
+    word_of(plan::plan(task).map(|plan| plan.routes()))
 }
 
 // Gather: the fewest moves that stack a position on a peg.
@@ -35,10 +32,7 @@ pub extern "C" fn tower_routes(task: &[u8]) -> u64
 pub extern "C" fn tower_gather(position: &[u8], peg: u8) -> u64
     ensures { result ≡ gather_word position.now peg }
 {
-    match plan::gather(position, peg) {
-        Ok(moves) => moves,
-        Err(why) => refusal_word(why),
-    }
+    word_of(plan::gather(position, peg))
 }
 
 // Run: writes moves of a shortest route from an index on as letter pairs, and says how many. Refused, it writes nothing.
@@ -47,10 +41,7 @@ pub extern "C" fn tower_run(task: &[u8], route: u64, first: u64, out: &mut [u8])
     ensures value { result ≡ run_word task.now route first out.old }
     ensures out_after { out.new ≡ run_writes task.now route first out.old }
 {
-    match run::run(task, route, first, out) {
-        Ok(count) => count as u64,
-        Err(why) => refusal_word(why),
-    }
+    word_of(run::run(task, route, first, out).map(|moves| moves as u64))
 }
 
 // Batch: writes the shortest length of each of many tasks of n discs, laid end to end, as `tower_shortest` answers it, and says how many
@@ -61,8 +52,5 @@ pub extern "C" fn tower_batch(n: u64, tasks: &[u8], out: &mut [u64]) -> u64
     ensures out_after { out.new ≡ batch_writes n tasks.now out.old }
     ensures tells { Tells result (batch_answer n tasks.now out.old) }
 {
-    match batch::batch(n, tasks, out) {
-        Ok(count) => count as u64,
-        Err(why) => refusal_word(why),
-    }
+    word_of(batch::batch(n, tasks, out).map(|count| count as u64))
 }
