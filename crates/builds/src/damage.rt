@@ -3,7 +3,7 @@ use crate::say;
 use builder::{Builder, add, empty};
 use std::io;
 
-// An addition and a removal, which are accepted where the builder is sound, on a builder that is first damaged.
+// Damages a builder, and shows an addition and a removal, each accepted where the builder is sound.
 fn damaged<F: FnOnce(&mut Builder)>(
     rt: &impl Print,
     mut b: Builder,

@@ -3,24 +3,24 @@ use crate::say;
 use session::{PLAY_LIMIT, Session, begin, play_on};
 use std::io;
 
-// A play that is legal where the record is sound, and a report, on a record that is first damaged.
+// Damages a record, and shows a play on it, which is legal where the record is sound, and the report of it without that play.
 fn damaged<F: FnOnce(&mut Session)>(
     rt: &impl Print,
-    session: &Session,
+    mut session: Session,
     name: &str,
     damage: F,
 ) -> io::Result<()>
     requires { F.IsAlwaysCallable damage }
 {
-    let mut record = *session;
-    damage(&mut record);
+    damage(&mut session);
     println!(rt; "{name}")?;
-    say::play(rt, &mut record, 0, 1)?;
-    say::report(rt, &record)
+    let mut played = session;
+    say::play(rt, &mut played, 0, 1)?;
+    say::report(rt, &session)
 }
 
 // Damaged positions: an unused byte of each set to 1, and a used byte set to 3.
-fn positions(rt: &impl Print, session: &Session) -> io::Result<()> {
+fn positions(rt: &impl Print, session: Session) -> io::Result<()> {
     damaged(rt, session, "an unused byte of start is 1", |s| {
         s.start[59] = 1;
     })?;
@@ -36,7 +36,7 @@ fn positions(rt: &impl Print, session: &Session) -> io::Result<()> {
 }
 
 // A damaged n, and damaged counts: n is 61, or one of the counts is one more.
-fn numbers(rt: &impl Print, session: &Session) -> io::Result<()> {
+fn numbers(rt: &impl Print, session: Session) -> io::Result<()> {
     damaged(rt, session, "n is 61", |s| s.n = 61)?;
     damaged(rt, session, "made is one more", |s| s.counts.made = 2)?;
     damaged(rt, session, "toward is one more", |s| s.counts.toward = 2)?;
@@ -45,7 +45,7 @@ fn numbers(rt: &impl Print, session: &Session) -> io::Result<()> {
 }
 
 // What remains is one more or one less than the fewest, and there are more fumbles than a record counts.
-fn fumbles_and_remaining(rt: &impl Print, session: &Session) -> io::Result<()> {
+fn fumbles_and_remaining(rt: &impl Print, session: Session) -> io::Result<()> {
     damaged(rt, session, "remaining is one more", |s| s.remaining = 3)?;
     damaged(rt, session, "remaining is one less", |s| s.remaining = 1)?;
     damaged(rt, session, "fumbles are 1000001", |s| {
@@ -54,7 +54,7 @@ fn fumbles_and_remaining(rt: &impl Print, session: &Session) -> io::Result<()> {
 }
 
 // Counts that add up, and yet no plays lead to them: one toward too many for the position, and more plays than a record counts.
-fn sums(rt: &impl Print, session: &Session) -> io::Result<()> {
+fn sums(rt: &impl Print, session: Session) -> io::Result<()> {
     damaged(rt, session, "made and toward are one more", |s| {
         s.counts.made = 2;
         s.counts.toward = 2;
@@ -68,9 +68,9 @@ fn sums(rt: &impl Print, session: &Session) -> io::Result<()> {
 // The record of [1, 0] to [0, 1] after B to C, sound and then damaged in each field.
 pub fn records(rt: &impl Print) -> io::Result<()> {
     let session = play_on(begin(b"\x01\x00\x00\x01").session, 1, 2).session;
-    damaged(rt, &session, "a sound record", |_| {})?;
-    positions(rt, &session)?;
-    numbers(rt, &session)?;
-    fumbles_and_remaining(rt, &session)?;
-    sums(rt, &session)
+    damaged(rt, session, "a sound record", |_| {})?;
+    positions(rt, session)?;
+    numbers(rt, session)?;
+    fumbles_and_remaining(rt, session)?;
+    sums(rt, session)
 }
