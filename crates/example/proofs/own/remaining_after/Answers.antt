@@ -1,6 +1,6 @@
 -- `example::own::remaining_after` meets its contract: a report after any list of plays says what remains.
 use mathlib.Core.List.{List}
-use mathlib.Core.Path.{◌≡◌, ◌∙◌, sym}
+use mathlib.Core.Path.{◌≡◌, ◌∙◌}
 use Prim.Native.Nat.{ℕ}
 use Rattle.board.specs.Fault.{Faultless, task_faults}
 use Rattle.board.specs.Fewest.{fewest}
