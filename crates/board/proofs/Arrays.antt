@@ -14,7 +14,7 @@ use Rattle.board.specs.Move.{Move, Legal, top, moved}
 use Rattle.board.specs.Position.{well_formed, WellFormed}
 use Rattle.board.specs.Task.{limit}
 use Rattle.board.proofs.Lists.{drop_replicate}
-use Rattle.board.proofs.Formed.{formed_append, formed_replicate, formed_pegs, pegs_formed}
+use Rattle.board.proofs.Formed.{formed_pegs, pegs_formed}
 
 -- Zeros are all zero.
 zeros_zero : (k : ℕ) → all_zero (replicate k 0) ≡ true
@@ -34,17 +34,9 @@ zero_zeros (b ∷ a) e =
 pub drop_zeros : (p : List ℕ) → p ++ drop (length p) (replicate limit 0) ≡ padded p
 drop_zeros p = rw drop_replicate
 
--- A position copied over the first of as many zeros as there can be discs is its array.
-pub copied_over : {a : List ℕ} (p : List ℕ) → a ≡ p → a ++ drop (length p) (replicate limit 0) ≡ padded p
-copied_over p e = ap (λ (b : List ℕ). b ++ drop (length p) (replicate limit 0)) e ∙ drop_zeros p
-
 -- The used bytes of a position's array are the position.
 pub padded_take : (p : List ℕ) (n : ℕ) → length p ≡ n → take n (padded p) ≡ p
 padded_take p n e = take_at p _ n e
-
--- A position's array is well formed where the position is.
-pub padded_formed : (p : List ℕ) → WellFormed p → WellFormed (padded p)
-padded_formed p h = formed_append p _ h (formed_replicate (limit - length p) 0 (omega arith))
 
 -- Zeros are 0 everywhere.
 zero_at : (a : List ℕ) → all_zero a ≡ true → (d : ℕ) → get_or a d 0 ≡ 0

@@ -5,7 +5,7 @@ use mathlib.Core.Logic.{◌≢◌}
 use native.Mathlib.Decide.{ℕ_discrete}
 use native.Mathlib.Omega.{arith}
 use borrow.Author.Tests.{eq-eqb, ne_eqb}
-use Rattle.plan.specs.Plan.{largest}
+use Rattle.plan.specs.Plan.{largest, lengths_of, way_of, plan_by}
 
 -- Of no discs none moves.
 pub largest_none : (p q : ℕ → ℕ) → largest p q 0 ≡ 0
@@ -39,3 +39,11 @@ largest_le p q (suc k) =
       | yes e ↦ omega (arith, largest_stays p q k e, largest_le p q k)
       | no n ↦ omega (arith, largest_moves p q k n)
     ]
+
+-- The plan where disc m is the largest that moves.
+pub plan_moving : (n : ℕ) (p q : ℕ → ℕ) (m : ℕ) → m ≢ 0
+    → plan_by n p q m
+    ≡ record { discs = n; largest = m; from = p (m - 1); to = q (m - 1); way = way_of (lengths_of p q (m - 1)) }
+unfolding plan_by
+plan_moving n p q zero h = absurd (h refl)
+plan_moving n p q (suc k) h = let less : suc k - 1 ≡ k = omega arith in rw less

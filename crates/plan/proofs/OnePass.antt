@@ -1,23 +1,25 @@
 -- Laws of the pass over both positions: what one disc does to the sums, that they fit, and what they are at the end.
-use Prim.Native.Nat.{ℕ, zero, suc, ◌+◌, ◌*◌, ◌-◌, ◌≤◌, ◌^◌}
-use mathlib.Core.Path.{◌≡◌, refl}
+use Prim.Native.Nat.{ℕ, zero, suc, ◌+◌, ◌*◌, ◌-◌, ◌≤◌, ◌<◌, ◌^◌}
+use mathlib.Core.Path.{◌≡◌, ◌∙◌, refl, sym}
 use mathlib.Core.Bool.{Bool, true, false, not, cond}
-use mathlib.Core.List.{List, [], ◌∷◌, ◌++◌}
+use mathlib.Core.List.{List}
 use mathlib.Core.Logic.{◌≢◌}
-use native.Mathlib.Nat.{add-mul, mul_assoc, mul_left_comm, mul-le-mul_left, mul-le-mul_right, mul-one, one-mul, zero-add, zero-mul, pow-succ'}
+use native.Mathlib.Nat.{add-mul, mul_assoc, mul_left_comm, mul-le-mul_left, mul-one, one-mul, zero-mul, pow-succ'}
 use native.Mathlib.Omega.{arith}
 use lib.Dec.{eqb}
-use lib.ListN.{length, get_or, set}
+use lib.ListN.{length}
 use lib.Pow.{pow_pos}
-use lib.Seq.{get_or-set_other}
 use mir.Val.{bool_byte}
 use Rattle.board.specs.Peg.{third}
 use Rattle.board.specs.Position.{peg}
+use Rattle.board.proofs.Formed.{formed_pegs}
 use Rattle.board.proofs.Pegs.{third_peg}
 use Rattle.plan.specs.Gather.{gather}
-use Rattle.plan.specs.Inner.Sound.{Together}
-use Rattle.plan.specs.Inner.Together.{added, together}
-use Rattle.plan.proofs.Gathering.{gather_append}
+use Rattle.plan.specs.Inner.Sound.{Ends}
+use Rattle.plan.specs.Inner.Together.{added, after}
+use Rattle.plan.specs.declared.together.Gathers.{Gathers}
+use Rattle.plan.proofs.Fits.{gather_fits, shifts}
+use Rattle.plan.proofs.Sound.{start_gatherable, goal_gatherable}
 
 -- 1 where disc k is not on its target, else 0, as the code says it.
 abbrev pub off : List ℕ → ℕ → ℕ → ℕ
@@ -30,19 +32,6 @@ next s k j = third j (peg s (k - 1))
 -- A plan's sum after disc k.
 abbrev pub passed : List ℕ → List ℕ → ℕ → ℕ → ℕ → ℕ → ℕ
 passed s t k i j sum = 2 * sum + off s k i + off t k j
-
--- A test counts at most 1.
-byte_small : (b : Bool) → bool_byte b ≤ 1
-byte_small true = omega arith
-byte_small false = omega arith
-
--- A disc counts at most 1.
-pub off_small : (s : List ℕ) (k j : ℕ) → off s k j ≤ 1
-off_small s k j = byte_small (not (eqb (peg s (k - 1)) j))
-
--- A sum with room for k discs is at most 2 ^ 63 − 2.
-pub room_now : (sum k : ℕ) → (sum + 2) * 2 ^ k ≤ 2 ^ 63 → sum + 2 ≤ 2 ^ 63
-room_now sum k room = omega (arith, mul-le-mul_left (sum + 2) (pow_pos k), mul-one (sum + 2))
 
 -- A test times a power is the power where the test fails.
 byte_times : (on : Bool) (w : ℕ) → bool_byte (not on) * w ≡ cond on 0 w
@@ -78,81 +67,48 @@ added_none : (s t : List ℕ) (i j sum : ℕ) → added s t 0 i j sum ≡ sum
 unfolding added gather
 added_none s t i j sum = omega (arith, mul-one sum)
 
--- Two sums are the list of both.
-both_sums : (sums : List ℕ) → length sums ≡ 2 → sums ≡ get_or sums 0 0 ∷ get_or sums 1 0 ∷ []
-both_sums [] h = absurd (omega arith)
-both_sums (a ∷ []) h = absurd (omega arith)
-both_sums (a ∷ b ∷ []) h = refl
-both_sums (a ∷ b ∷ c ∷ sums) h = absurd (omega arith)
-
--- Both sums after disc k.
-abbrev pub passes : List ℕ → List ℕ → ℕ → ℕ → ℕ → ℕ → ℕ → List ℕ → List ℕ
-passes s t k i j i' j' sums = passed s t k i j (get_or sums 0 0) ∷ passed s t k i' j' (get_or sums 1 0) ∷ []
-
--- A store to the first sum keeps the second.
-pub second_kept : (sums : List ℕ) (v : ℕ) → get_or (set sums 0 v) 1 0 ≡ get_or sums 1 0
-second_kept sums v = get_or-set_other sums 0 1 v 0 (omega arith)
-
--- A store to the first of two sums, and then to the second.
-both_stored : (sums : List ℕ) (v : ℕ) (f : ℕ → ℕ) → length sums ≡ 2
-    → set (set sums 0 v) 1 (f (get_or (set sums 0 v) 1 0)) ≡ v ∷ f (get_or sums 1 0) ∷ []
-both_stored [] v f h = absurd (omega arith)
-both_stored (a ∷ []) v f h = absurd (omega arith)
-both_stored (a ∷ b ∷ []) v f h = refl
-both_stored (a ∷ b ∷ c ∷ sums) v f h = absurd (omega arith)
-
--- Room for k discs is room for the smaller ones after disc k.
-room_more : (s t : List ℕ) (k i j sum : ℕ) → k ≢ 0 → (sum + 2) * 2 ^ k ≤ 2 ^ 63 → (passed s t k i j sum + 2) * 2 ^ (k - 1) ≤ 2 ^ 63
-room_more s t zero i j sum n room = absurd (n refl)
-room_more s t (suc k) i j sum n room =
-    let less : suc k - 1 ≡ k = omega arith in
-    let a : passed s t (suc k) i j sum + 2 ≤ 2 * (sum + 2) = omega (arith, off_small s (suc k) i, off_small t (suc k) j) in
-    let b : (sum + 2) * (2 * 2 ^ k) ≤ 2 ^ 63 = rw (pow-succ' 2 k) at room in
-    rw less (omega (arith, mul-le-mul_right (2 ^ k) (rw less at a), mul_assoc 2 (sum + 2) (2 ^ k), mul_left_comm (sum + 2) 2 (2 ^ k)))
-
-module _ {s t : List ℕ} {k i j i' j' : ℕ} {sums : List ℕ} (ready : Together s t k i j i' j' sums) where
-  -- Where no disc is left the sums stay.
-  pub together_none : k ≡ 0 → sums ≡ together s t k i j i' j' sums
-  together_none e = rw e (simp added_none (both_sums sums ready.both))
-
-  -- What the code stores is both sums after disc k.
-  pub sums_stored :
-      set
-      (set sums 0 (passed s t k i j (get_or sums 0 0)))
-      1
-      (passed s t k i' j' (get_or (set sums 0 (passed s t k i j (get_or sums 0 0))) 1 0))
-      ≡ passes s t k i j i' j' sums
-  sums_stored = both_stored sums (passed s t k i j (get_or sums 0 0)) (passed s t k i' j') ready.both
-
-  module _ (n : k ≢ 0) where
-    -- The smaller discs can be gathered together after disc k.
-    pub passes_ready :
-        Together s t (k - 1) (next s k i) (next t k j) (next s k i') (next t k j') (passes s t k i j i' j' sums)
-    passes_ready =
-        record {
-          within = omega arith;
-          start_formed = ready.start_formed;
-          goal_formed = ready.goal_formed;
-          start_direct = third_peg i (peg s (k - 1)) ready.start_direct;
-          goal_direct = third_peg j (peg t (k - 1)) ready.goal_direct;
-          start_detour = third_peg i' (peg s (k - 1)) ready.start_detour;
-          goal_detour = third_peg j' (peg t (k - 1)) ready.goal_detour;
-          both = refl;
-          direct_room = room_more s t k i j (get_or sums 0 0) n ready.direct_room;
-          detour_room = room_more s t k i' j' (get_or sums 1 0) n ready.detour_room;
-        }
-
-    -- The sums that gathering them gives are those of all k discs.
-    pub together_more :
-        together s t (k - 1) (next s k i) (next t k j) (next s k i') (next t k j') (passes s t k i j i' j' sums)
-        ≡ together s t k i j i' j' sums
-    together_more = cc (added_more s t k i j (get_or sums 0 0) n, added_more s t k i' j' (get_or sums 1 0) n)
-
--- From sums of 0, each plan's is the lengths of its two gathers.
-pub together_copied : (p q zs ws : List ℕ) (k i j i' j' : ℕ) → k ≤ length p → k ≤ length q
-    → together (p ++ zs) (q ++ ws) k i j i' j' (0 ∷ 0 ∷ [])
-    ≡ (gather (peg p) k i + gather (peg q) k j) ∷ (gather (peg p) k i' + gather (peg q) k j') ∷ []
+-- The sum is never more than what it comes to.
+added_least : (s t : List ℕ) (k i j sum : ℕ) → sum ≤ added s t k i j sum
 unfolding added
-together_copied p q zs ws k i j i' j' hp hq =
-    rw (gather_append p zs k i hp, gather_append q ws k j hq, gather_append p zs k i' hp, gather_append q ws k j' hq)
-    (simp (zero-mul, zero-add))
+added_least s t k i j sum = omega (arith, mul-le-mul_left sum (pow_pos k), mul-one sum)
+
+-- With the k smallest discs left to pass, a plan's sum comes to n in the end.
+pub record Passing (s t : List ℕ) (k : ℕ) (g : Gathers) (n : ℕ) : Type 0 where
+  pub start_target : g.start < 3
+  pub goal_target : g.goal < 3
+  pub comes_to : added s t k g.start g.goal g.sum ≡ n
+  pub fits : n < 2 ^ 61
+
+-- From 0 it comes to the lengths of the two gathers.
+pub passing_first : {s t : List ℕ} {k i j : ℕ} → Ends s t → k < length s → i < 3 → j < 3
+    → Passing s t k (record { start = i; goal = j; sum = 0 }) (gather (peg s) k i + gather (peg t) k j)
+unfolding added
+passing_first {k = k} ends h hi hj =
+    record {
+      start_target = hi;
+      goal_target = hj;
+      comes_to = omega (arith, zero-mul (2 ^ k));
+      fits = omega (arith, gather_fits (start_gatherable ends h hi), gather_fits (goal_gatherable ends h hj));
+    }
+
+module _ {s t : List ℕ} {k n : ℕ} {g : Gathers} (p : Passing s t k g n) where
+  -- Disc k is passed.
+  pub passing_next : k ≢ 0 → Passing s t (k - 1) (after g (peg s (k - 1)) (peg t (k - 1))) n
+  passing_next some =
+      record {
+        start_target = third_peg g.start _ p.start_target;
+        goal_target = third_peg g.goal _ p.goal_target;
+        comes_to = added_more s t k g.start g.goal g.sum some ∙ p.comes_to;
+        fits = p.fits;
+      }
+
+  -- No disc is left.
+  pub passing_last : k ≡ 0 → g.sum ≡ n
+  passing_last none = sym (added_none s t g.start g.goal g.sum) ∙ rw none at p.comes_to
+
+  -- On the way the sum is at most n, and fits.
+  pub passing_fits : g.sum < 2 ^ 61
+  passing_fits = omega (arith, added_least s t k g.start g.goal g.sum)
+
+-- What the loop cites.
+pub ruleset one_pass = (formed_pegs, shifts, passing_last, passing_fits)

@@ -1,16 +1,13 @@
 -- What an accepted call gives the functions of this library.
 use Prim.Native.Nat.{ℕ, ◌<◌, ◌^◌}
 use mathlib.Core.List.{List}
-use mathlib.Core.Path.{◌≡◌, ◌∙◌}
+use mathlib.Core.Path.{◌≡◌}
 use native.Mathlib.Omega.{arith}
 use lib.ListN.{length}
 use lib.Pow.{pow_mono}
 use Rattle.board.specs.Fewest.{fewest}
-use Rattle.board.specs.Move.{Move, Legal, moved}
 use Rattle.board.specs.Task.{limit, start, goal}
-use Rattle.board.proofs.Leads.{formed_moved}
 use Rattle.board.proofs.Tasks.{SoundTask, SoundPosition}
-use Rattle.board.proofs.Top.{length_moved}
 use Rattle.plan.specs.Inner.Sound.{Gatherable, Ends}
 use Rattle.plan.specs.Plan.{plan_of, shortest}
 use Rattle.plan.proofs.Optimal.{fewest_shortest, shortest_bound}
@@ -39,13 +36,3 @@ ends_fewest e = fewest_shortest _ _ e.same e.start_formed e.goal_formed
 -- They are below 2 ^ limit.
 pub ends_fit : {s t : List ℕ} → Ends s t → shortest (plan_of s t) < 2 ^ limit
 ends_fit {s} {t} e = omega (arith, shortest_bound s t e.same e.start_formed e.goal_formed, pow_mono e.within)
-
--- A legal move from one of two ends leaves two ends.
-pub moved_ends : {p q : List ℕ} {m : Move} → Legal p m → Ends p q → Ends (moved p m) q
-moved_ends {p} {q} {m} l e =
-    record {
-      same = length_moved p m ∙ e.same;
-      within = omega (arith, length_moved p m, e.within);
-      start_formed = formed_moved p m e.start_formed l;
-      goal_formed = e.goal_formed;
-    }

@@ -6,20 +6,19 @@ ghost use Rattle.plan.specs.Plan.{largest, lengths_of, plan_of};
 
 use crate::answer::{Lengths, Plan, Way};
 use crate::task::Task;
-use crate::together::gather_together;
-use board::{LIMIT, Refusal};
+use crate::together::Gathers;
+use board::Refusal;
 
 // The largest disc whose pegs differ, or 0.
+#[tactic(auto, using(crate::proofs::Largest::largest_here, crate::proofs::Largest::largest_less))]
 pub fn largest_moving(start: &[u8], goal: &[u8]) -> usize
     requires { length start.now ≡ length goal.now }
     ensures { result ≡ largest (peg start.now) (peg goal.now) (length start.now) }
 {
-    let mut m = start.len();
-    while 0 < m {
-        if start[m - 1] != goal[m - 1] {
-            return m;
+    for k in (0..start.len()).rev() {
+        if start[k] != goal[k] {
+            return k + 1;
         }
-        m -= 1;
     }
     0
 }
@@ -45,30 +44,38 @@ impl<'a> Task<'a> {
     }
 
     // The direct and the detour length of disc k + 1.
+    #[tactic(auto, using(crate::proofs::OnePass::one_pass), unfolding(crate::specs::Plan::direct, crate::specs::Plan::detour))]
     fn lengths(&self, k: usize) -> Lengths
         requires { k < length self.now.start.now }
         ensures { result ≡ lengths_of (peg self.now.start.now) (peg self.now.goal.now) k }
     {
         let start = self.start;
         let goal = self.goal;
-        let a = start[k];
-        let b = goal[k];
-        let c = board::third(a, b);
-        let mut from = [0; LIMIT];
-        let mut to = [0; LIMIT];
-        from[..start.len()].copy_from_slice(start);
-        to[..goal.len()].copy_from_slice(goal);
-        let mut sums = [0; 2];
-        gather_together(
-            &from, &to, k, c as u64, c as u64, b as u64, a as u64, &mut sums,
-        );
+        let from = start[k];
+        let to = goal[k];
+        let aside = board::third(from, to);
+        let mut direct = Gathers {
+            start: aside,
+            goal: aside,
+            sum: 0,
+        };
+        let mut detour = Gathers {
+            start: to,
+            goal: from,
+            sum: 0,
+        };
+        for d in (0..k).rev() {
+            direct = direct.passed(start[d], goal[d]);
+            detour = detour.passed(start[d], goal[d]);
+        }
         Lengths {
-            direct: sums[0] + 1,
-            detour: sums[1] + (1 << k) + 1,
+            direct: direct.sum + 1,
+            detour: detour.sum + (1 << k) + 1,
         }
     }
 
     // The plan.
+    #[tactic(auto, using(crate::proofs::Largest::largest_le, crate::proofs::Largest::plan_moving), unfolding(crate::specs::Plan::plan_of, crate::specs::Plan::plan_by))]
     pub fn plan(&self) -> Plan
         ensures { result ≡ plan_of self.now.start.now self.now.goal.now }
     {

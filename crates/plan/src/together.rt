@@ -1,45 +1,28 @@
-// The gathers of both plans together, in one pass over both positions. Positions are arrays here, and targets single numbers: so the
-// compiler keeps all that the loop follows in registers, with no branch on a peg.
-ghost use Rattle.std.specs.Prelude.{◌≡◌, ◌<◌};
-ghost use Rattle.board.specs.Peg.{third as third_of};
-ghost use Rattle.plan.specs.Inner.Sound.{Together};
-ghost use Rattle.plan.specs.Inner.Together.{together};
+// The gathers of both plans together, in one pass over both positions from the largest disc downwards.
+ghost use Rattle.std.specs.Prelude.{◌≡◌, ◌<◌, ◌^◌};
+ghost use Rattle.plan.specs.Inner.Together.{after};
 
-use board::LIMIT;
-
-// The third peg of i and j, as `board::third`, on wide numbers.
-fn third(i: u64, j: u64) -> u64
-    requires { (i < 3) × (j < 3) }
-    ensures { result ≡ third_of i j }
-{
-    if i == j { i } else { 3 - (i + j) }
+// One plan's gathers: the pegs that the next disc of the start and of the goal is to be on, and the sum so far.
+#[derive(Clone, Copy)]
+pub struct Gathers {
+    pub start: u8,
+    pub goal: u8,
+    pub sum: u64,
 }
 
-// Follows four targets from disc k downwards: those of the start and of the goal in the direct plan, then in the detour. A plan's sum
-// doubles with each disc, and gains one for each of the two positions where the disc is not on its target.
-pub fn gather_together(
-    start: &[u8; LIMIT],
-    goal: &[u8; LIMIT],
-    mut k: usize,
-    mut start_direct: u64,
-    mut goal_direct: u64,
-    mut start_detour: u64,
-    mut goal_detour: u64,
-    sums: &mut [u64; 2],
-)
-    requires { Together start.now goal.now k start_direct goal_direct start_detour goal_detour sums.old }
-    ensures { sums.new ≡ together start.now goal.now k start_direct goal_direct start_detour goal_detour sums.old }
-{
-    while 0 < k {
-        let below = k - 1;
-        let x = start[below] as u64;
-        let y = goal[below] as u64;
-        sums[0] = 2 * sums[0] + (x != start_direct) as u64 + (y != goal_direct) as u64;
-        sums[1] = 2 * sums[1] + (x != start_detour) as u64 + (y != goal_detour) as u64;
-        start_direct = third(start_direct, x);
-        goal_direct = third(goal_direct, y);
-        start_detour = third(start_detour, x);
-        goal_detour = third(goal_detour, y);
-        k = below;
+impl Gathers {
+    // After a disc that is on x in the start and on y in the goal. The sum doubles, and gains one for each of the two that is not on its
+    // target. There is no branch on a peg, and a compiler keeps all of it in registers.
+    pub fn passed(self, x: u8, y: u8) -> Gathers
+        requires targets { (self.start < 3) × (self.goal < 3) }
+        requires pegs { (x < 3) × (y < 3) }
+        requires room { self.sum < 2 ^ 62 }
+        ensures { result ≡ after self x y }
+    {
+        Gathers {
+            start: board::third(self.start, x),
+            goal: board::third(self.goal, y),
+            sum: 2 * self.sum + (x != self.start) as u64 + (y != self.goal) as u64,
+        }
     }
 }

@@ -1,5 +1,5 @@
 -- What the functions of this library ask of each other once the faults of a call are ruled out.
-use Rattle.std.specs.Prelude.{ℕ, ◌+◌, ◌*◌, ◌^◌, ◌≤◌, ◌<◌, ◌≡◌, List, length, get_or}
+use Rattle.std.specs.Prelude.{ℕ, ◌≤◌, ◌<◌, ◌≡◌, List, length}
 use Rattle.board.specs.Position.{WellFormed}
 use Rattle.board.specs.Task.{limit}
 
@@ -16,17 +16,3 @@ pub record Ends (s t : List ℕ) : Type 0 where
   pub within : length s ≤ limit
   pub start_formed : WellFormed s
   pub goal_formed : WellFormed t
-
--- The first k discs of s and of t can be gathered together: on i and j for the direct plan, on i' and j' for the detour. Both sums leave
--- room for it.
-pub record Together (s t : List ℕ) (k i j i' j' : ℕ) (sums : List ℕ) : Type 0 where
-  pub within : k ≤ limit
-  pub start_formed : WellFormed s
-  pub goal_formed : WellFormed t
-  pub start_direct : i < 3
-  pub goal_direct : j < 3
-  pub start_detour : i' < 3
-  pub goal_detour : j' < 3
-  pub both : length sums ≡ 2
-  pub direct_room : (get_or sums 0 0 + 2) * 2 ^ k ≤ 2 ^ 63
-  pub detour_room : (get_or sums 1 0 + 2) * 2 ^ k ≤ 2 ^ 63

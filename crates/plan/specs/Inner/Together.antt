@@ -1,12 +1,20 @@
--- What one pass over both positions makes of the sums of both plans.
-use Rattle.std.specs.Prelude.{ℕ, ◌+◌, ◌*◌, ◌^◌, List, [], ◌∷◌, get_or}
+-- What one pass over both positions makes of the gathers of a plan.
+use Rattle.std.specs.Prelude.{ℕ, ◌+◌, ◌*◌, ◌^◌, not, List, eqb}
+use Rattle.std.specs.Int.{from_bool}
+use Rattle.board.specs.Peg.{third}
 use Rattle.board.specs.Position.{peg}
 use Rattle.plan.specs.Gather.{gather}
+use Rattle.plan.specs.declared.together.Gathers.{Gathers}
 
 -- A plan's sum, doubled once for each of k discs, and the lengths to gather these discs on i from the start s and on j from the goal t.
 unfoldable pub added : List ℕ → List ℕ → ℕ → ℕ → ℕ → ℕ → ℕ
 added s t k i j sum = sum * 2 ^ k + (gather (peg s) k i + gather (peg t) k j)
 
--- Both sums: of the direct plan, with the targets i and j, and of the detour, with the targets i' and j'.
-abbrev pub together : List ℕ → List ℕ → ℕ → ℕ → ℕ → ℕ → ℕ → List ℕ → List ℕ
-together s t k i j i' j' sums = added s t k i j (get_or sums 0 0) ∷ added s t k i' j' (get_or sums 1 0) ∷ []
+-- Its gathers after a disc on x in the start and on y in the goal.
+abbrev pub after : Gathers → ℕ → ℕ → Gathers
+after g x y =
+    record {
+      start = third g.start x;
+      goal = third g.goal y;
+      sum = 2 * g.sum + from_bool (not (eqb x g.start)) + from_bool (not (eqb y g.goal));
+    }
