@@ -18,7 +18,7 @@ unfolding is_digit
 digit_is d h = rw (lt-ltb 47 (digit d) (omega arith), lt-ltb (digit d) 58 (omega arith))
 
 -- A byte that passes the test for digits is the byte of a digit, so that what the reader takes is one.
-pub passed_digit : (c : ℕ) → is_digit c ≡ true → (c ≡ digit (c - 48)) × (c - 48 < 10)
+passed_digit : (c : ℕ) → is_digit c ≡ true → (c ≡ digit (c - 48)) × (c - 48 < 10)
 unfolding is_digit
 passed_digit c e =
     let both = (and-eq-true_iff (ltb 47 c) (ltb c 58)).0 e in

@@ -1,8 +1,8 @@
 -- Laws of the texts that the task program reads and writes.
 pub mod Grammar
 pub mod Reading
-pub mod Page
 pub mod Numbers
+pub mod Page
 pub mod Runs
 pub mod Answers
 pub mod Obeys

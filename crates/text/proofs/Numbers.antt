@@ -1,4 +1,4 @@
--- The digits that `decimal` gives (specs/Decimal): how many they are, that they are a decimal of the number, and that there is no other.
+-- The digits that `decimal` gives (specs/Decimal): that std prints them, that they are a decimal of the number, and that there is no other.
 use Prim.Native.Nat.{ℕ, zero, suc, ◌+◌, ◌*◌, ◌-◌, ◌/◌, ◌%◌, ◌^◌, ◌≤◌, ◌<◌}
 use mathlib.Core.Path.{◌≡◌, refl, sym, ap}
 use mathlib.Core.List.{List, [], ◌∷◌, ◌++◌, append-nil, append_assoc}
@@ -8,6 +8,8 @@ use native.Mathlib.Decide.{dec_lt}
 use native.Mathlib.Omega.{arith}
 use borrow.Author.Tests.{lt-ltb, le-ltb}
 use lib.ListN.{length, length-append}
+use Rattle.std.specs.Fmt.{decimal as printed}
+use Rattle.std.proofs.lemmas.Fmt.{AppendsLastDigit, decimal_from_appends, length-decimal-le_succ}
 use Rattle.text.specs.Input.{digit}
 use Rattle.text.specs.Decimal.{decimal_by, decimal, value_after, Numerals, none, more, Decimal}
 
@@ -32,18 +34,15 @@ pub decimal_more : (n : ℕ) → 10 ≤ n → decimal n ≡ decimal (n / 10) ++ 
 unfolding decimal decimal_by
 decimal_more n h = rw (le-ltb n 10 h, any_most n (suc (n / 10)) (n / 10) (omega arith) (omega arith))
 
--- A number below 10 ^ k has at most k digits, k at least 1: for the room that a number takes.
-pub decimal_length : (k n : ℕ) → n < 10 ^ suc k → length (decimal n) ≤ suc k
-decimal_length zero n h = rw (decimal_small n (omega arith)) (omega arith)
-decimal_length (suc k) n h =
-    elim (dec_lt n 10) [
-      | yes l ↦ rw (decimal_small n l) (omega arith)
-      | no l ↦ rw (decimal_more n (omega arith), length-append) (omega (arith, decimal_length k (n / 10) (omega arith)))
-    ]
-
--- So every 64-bit number has at most 20: for the room that a word takes.
-pub decimal_fits : (n : ℕ) → n < 2 ^ 64 → length (decimal n) ≤ 20
-decimal_fits n h = decimal_length 19 n (omega arith)
+-- They are what std prints of a 64-bit number: so they are what is put.
+pub decimal_std : (n : ℕ) → n < 2 ^ 64 → printed n ≡ decimal n
+unfolding decimal decimal_by
+decimal_std n h =
+    let last : AppendsLastDigit decimal_by = record {
+      one = λ k n h. rw (lt-ltb n 10 h, mod-eq_of_lt h);
+      more = λ k n h. rw (le-ltb n 10 h);
+    } in
+    sym (decimal_from_appends decimal_by last (suc n) n h (omega (arith, length-decimal-le_succ n h)))
 
 -- Numerals and then a digit are numerals: for the digits of a number, made from those of its tenth.
 numerals_more : {t : List ℕ} {d : ℕ} → Numerals t → d < 10 → Numerals (t ++ (digit d ∷ []))

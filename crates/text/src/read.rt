@@ -1,18 +1,22 @@
 // The reader: two lines, each a position in single digits.
-ghost use Rattle.std.specs.Prelude.{cond, ◌++◌, ◌≡◌, ◌+◌, ◌≤◌, length};
-ghost use Rattle.text.specs.Input.{most};
-ghost use Rattle.text.specs.Reading.{is_digit, follow, is_bracket, is_text, digits as digits_of, line_end, start_in, goal_in};
-ghost use Rattle.text.specs.Inner.Page.{Puts};
-ghost use Rattle.text.specs.declared.read.Next.TheVariants.{Nothing};
+ghost use Rattle.std.specs.Prelude.{◌++◌, ◌≡◌, ◌+◌, ◌≤◌, length};
+ghost use Rattle.arrayvec.specs.ArrayVec.{array_vec_len};
+ghost use Rattle.text.specs.Inner.Page.{bytes_reply, read_answer};
+ghost use Rattle.text.specs.Reading.{follow, follow_all, lines, is_bracket, is_text, digits as digits_of, line_end};
+ghost use Rattle.text.specs.declared.read.Next.TheVariants.{Bracket};
+
+use arrayvec::ArrayVec;
+use board::Refusal;
 
 // The most bytes of a text.
-pub const MOST: usize = 512;
+const MOST: usize = 512;
 
-const NEWLINE: u8 = b'\n';
+// The digits of a text: no more than it has bytes.
+pub type Digits = ArrayVec<u8, MOST>;
 
 // What may come next in a text.
 #[derive(Clone, Copy)]
-pub enum Next {
+enum Next {
     Bracket,
     DigitOrEnd,
     CommaOrEnd,
@@ -22,41 +26,20 @@ pub enum Next {
     Nothing,
 }
 
-// Whether a byte is a digit: it lies between the bytes before 0 and after 9.
-fn is_digit(byte: u8) -> bool
-    ensures { result ≡ is_digit byte }
-{
-    (b'/' < byte) & (byte < b':')
-}
-
-// What comes next where a test passes, else nothing.
-fn only_if(test: bool, next: Next) -> Next
-    ensures { result ≡ cond test next Nothing }
-{
-    if test { next } else { Next::Nothing }
-}
-
 impl Next {
     // What may come after a byte.
+    #[tactic(auto, using(std::proofs::lemmas::Bool::Decides::nat_tests), unfolding(crate::specs::Reading::follow, crate::specs::Reading::is_digit))]
     fn after(self, byte: u8) -> Next
         ensures { result ≡ follow self byte }
     {
-        match self {
-            Next::Bracket => only_if(byte == b'[', Next::DigitOrEnd),
-            Next::DigitOrEnd => if byte == b']' {
-                Next::Newline
-            } else {
-                only_if(is_digit(byte), Next::CommaOrEnd)
-            },
-            Next::CommaOrEnd => if byte == b',' {
-                Next::Space
-            } else {
-                only_if(byte == b']', Next::Newline)
-            },
-            Next::Space => only_if(byte == b' ', Next::Digit),
-            Next::Digit => only_if(is_digit(byte), Next::CommaOrEnd),
-            Next::Newline => only_if(byte == NEWLINE, Next::Bracket),
-            Next::Nothing => Next::Nothing,
+        match (self, byte) {
+            (Next::Bracket, b'[') => Next::DigitOrEnd,
+            (Next::DigitOrEnd | Next::CommaOrEnd, b']') => Next::Newline,
+            (Next::DigitOrEnd | Next::Digit, b'0'..=b'9') => Next::CommaOrEnd,
+            (Next::CommaOrEnd, b',') => Next::Space,
+            (Next::Space, b' ') => Next::Digit,
+            (Next::Newline, b'\n') => Next::Bracket,
+            _ => Next::Nothing,
         }
     }
 
@@ -64,87 +47,75 @@ impl Next {
     fn is_bracket(self) -> bool
         ensures { result ≡ is_bracket self }
     {
-        match self {
-            Next::Bracket => true,
-            Next::DigitOrEnd => false,
-            Next::CommaOrEnd => false,
-            Next::Space => false,
-            Next::Digit => false,
-            Next::Newline => false,
-            Next::Nothing => false,
-        }
+        matches!(self, Next::Bracket)
     }
 }
 
+// How many lines end in some bytes.
+#[tactic(auto, using(crate::proofs::Reading::lines_count))]
+fn newlines(input: &[u8]) -> usize
+    ensures { result ≡ lines input.now }
+{
+    input.iter().filter(|b| **b == b'\n').count()
+}
+
+// What may come after some bytes that begin a line.
+fn next_after(input: &[u8]) -> Next
+    ensures { result ≡ follow_all Bracket input.now }
+{
+    input.iter().fold(Next::Bracket, |next, b| next.after(*b))
+}
+
 // Whether bytes are the text of two positions.
-pub fn is_text(input: &[u8]) -> bool
+#[tactic(auto, using(std::proofs::lemmas::Bool::Decides::nat_tests), unfolding(crate::specs::Reading::is_text))]
+fn is_text(input: &[u8]) -> bool
     ensures { result ≡ is_text input.now }
 {
     if MOST < input.len() {
         return false;
     }
-    let mut next = Next::Bracket;
-    let mut lines = 0usize;
-    let mut i = 0;
-    while i < input.len() {
-        let byte = input[i];
-        next = next.after(byte);
-        if byte == NEWLINE {
-            lines += 1;
-        }
-        i += 1;
-    }
-    if lines != 2 {
-        return false;
-    }
-    next.is_bracket()
+    newlines(input) == 2 && next_after(input).is_bracket()
 }
 
 // Where the first line ends.
 fn line_end(input: &[u8]) -> usize
-    ensures { result ≡ line_end input.now }
+    ensures value { result ≡ line_end input.now }
+    ensures bound { result ≤ length input.now }
 {
-    for (i, b) in input.iter().enumerate() {
-        if *b == NEWLINE {
-            return i;
+    input
+        .iter()
+        .position(|b| *b == b'\n')
+        .unwrap_or(input.len())
+}
+
+// Puts the digits among some bytes onto a list of digits.
+#[tactic(auto, using(std::proofs::lemmas::Bool::Decides::nat_tests, crate::proofs::Reading::digits_here, crate::proofs::Reading::digits_past, crate::proofs::Reading::digits_none), unfolding(crate::specs::Reading::is_digit))]
+fn put_digits(digits: &mut Digits, bytes: &[u8])
+    requires { array_vec_len digits.old + length bytes.now ≤ 512 }
+    ensures { digits.new.items ≡ digits.old.items ++ digits_of bytes.now }
+{
+    for byte in bytes {
+        if byte.is_ascii_digit() {
+            digits.push(*byte - b'0');
         }
     }
-    input.len()
 }
 
-// Puts the digits among some bytes into a task from a place on, and answers the place after them.
-fn put_digits(bytes: &[u8], task: &mut [u8; 512], at: usize) -> usize
-    requires { at + length bytes.now ≤ 512 }
-    ensures { Puts task.old at (digits_of bytes.now) task.new result }
+// The digits of both lines, the goal's straight after the start's. Refuses with 12, and with 1 where one line has more of them.
+#[tactic(auto, using(std::proofs::lemmas::Bool::Decides::nat_tests, crate::proofs::Reading::text_fits, crate::proofs::Reading::digits_few), unfolding(crate::specs::Inner::Page::read_answer, crate::specs::Reading::start_in, crate::specs::Reading::goal_in))]
+pub fn read_task(input: &[u8]) -> Result<Digits, Refusal>
+    ensures { bytes_reply result ≡ read_answer input.now }
 {
-    let mut used = at;
-    let mut i = 0;
-    while i < bytes.len() {
-        let byte = bytes[i];
-        if is_digit(byte) {
-            task[used] = byte - b'0';
-            used += 1;
-        }
-        i += 1;
+    if !is_text(input) {
+        return Err(Refusal::BadText);
     }
-    used
-}
-
-// How many digits the first line has, and how many both have.
-#[derive(Clone, Copy)]
-pub struct DigitCounts {
-    pub start: usize,
-    pub all: usize,
-}
-
-// Puts the digits of both lines into a task: the goal's begin straight after the start's.
-pub fn read_task(input: &[u8], task: &mut [u8; 512]) -> DigitCounts
-    requires { length input.now ≤ most }
-    ensures start_value { result.start ≡ length (start_in input.now) }
-    ensures puts { Puts task.old 0 (start_in input.now ++ goal_in input.now) task.new result.all }
-{
-    let end = line_end(input);
-    let start = put_digits(&input[..end], task, 0);
-    let all = put_digits(&input[end..], task, start);
-    DigitCounts { start, all }
+    let (first, second) = input.split_at(line_end(input));
+    let mut digits = Digits::new();
+    put_digits(&mut digits, first);
+    let start = digits.len();
+    put_digits(&mut digits, second);
+    if digits.len() - start != start {
+        return Err(Refusal::OddLength);
+    }
+    Ok(digits)
 }

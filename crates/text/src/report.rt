@@ -1,114 +1,98 @@
 // The report of a task, line by line.
-ghost use Rattle.std.specs.Prelude.{◌++◌, ◌≡◌, ◌+◌, ◌*◌, ◌<◌, ◌≤◌, length, take};
+ghost use Rattle.std.specs.Prelude.{◌++◌, ◌≡◌, ◌+◌, ◌*◌, ◌<◌, ◌≤◌, length};
+ghost use Rattle.arrayvec.specs.ArrayVec.{array_vec_len};
+ghost use Rattle.text.specs.Inner.Page.{spaced};
+ghost use Rattle.text.specs.Report.{length_lines, head_text, route_text, route_line, report_text};
 ghost use Rattle.board.specs.Reply.{pass};
 ghost use Rattle.board.specs.Task.{start, goal, task_check};
-ghost use Rattle.plan.specs.Plan.{plan_of, routes};
+ghost use Rattle.plan.specs.Plan.{plan_of};
 ghost use Rattle.route.specs.Answer.{length_of, count_of, task_route};
-ghost use Rattle.text.specs.Decimal.{decimal};
-ghost use Rattle.text.specs.Inner.Page.{Puts, spaced};
-ghost use Rattle.text.specs.Report.{line, direct_label, detour_label, length_lines, head_text, route_text, route_line, report_text};
 
 use crate::put::{Page, put, put_decimal, put_line};
-use plan::{Lengths, Plan, Way};
+use plan::{Plan, Way};
 
 // The most moves of a route that is printed.
 const MOST_MOVES: u64 = 1000;
 
-// Puts the two plan lengths.
-fn put_both(page: &mut Page, at: usize, lengths: Lengths) -> usize
-    requires { at + 56 ≤ 8192 }
-    ensures puts { Puts page.old at (line direct_label (decimal lengths.direct) ++ line detour_label (decimal lengths.detour)) page.new result }
-    ensures upper_bound { result ≤ at + 56 }
-{
-    let next = put_line(page, at, b"direct ", lengths.direct);
-    put_line(page, next, b"detour ", lengths.detour)
-}
-
 // Puts the lines of the two plan lengths; still has none.
-fn put_lengths(page: &mut Page, at: usize, way: Way) -> usize
-    requires { at + 56 ≤ 8192 }
-    ensures puts { Puts page.old at (length_lines way) page.new result }
-    ensures upper_bound { result ≤ at + 56 }
+fn put_lengths(page: &mut Page, way: Way)
+    requires { array_vec_len page.old + 56 ≤ 8192 }
+    ensures items { page.new.items ≡ page.old.items ++ length_lines way }
+    ensures upper_bound { array_vec_len page.new ≤ array_vec_len page.old + 56 }
 {
     match way {
-        Way::Still => put(page, at, b"direct -\ndetour -\n"),
-        Way::Direct(lengths) => put_both(page, at, lengths),
-        Way::Detour(lengths) => put_both(page, at, lengths),
-        Way::Tie(lengths) => put_both(page, at, lengths),
+        Way::Still => put(page, b"direct -\ndetour -\n"),
+        Way::Direct(lengths) | Way::Detour(lengths) | Way::Tie(lengths) => {
+            put_line(page, b"direct ", lengths.direct);
+            put_line(page, b"detour ", lengths.detour);
+        },
     }
 }
 
-// Puts the lines above the routes at the start of a page.
-fn put_head(page: &mut Page, p: Plan) -> usize
-    ensures puts { Puts page.old 0 (head_text p) page.new result }
-    ensures upper_bound { result ≤ 141 }
+// Puts the lines above the routes.
+#[tactic(auto, unfolding(crate::specs::Report::head_text))]
+fn put_head(page: &mut Page, plan: Plan)
+    requires { array_vec_len page.old + 141 ≤ 8192 }
+    ensures items { page.new.items ≡ page.old.items ++ head_text plan }
+    ensures upper_bound { array_vec_len page.new ≤ array_vec_len page.old + 141 }
 {
-    let way = p.way;
-    let lengths = put_line(page, 0, b"discs ", p.discs as u64);
-    let fewest = put_lengths(page, lengths, way);
-    let count = put_line(page, fewest, b"shortest ", p.shortest());
-    put_line(page, count, b"routes ", p.routes())
+    put_line(page, b"discs ", plan.discs as u64);
+    put_lengths(page, plan.way);
+    put_line(page, b"shortest ", plan.shortest());
+    put_line(page, b"routes ", plan.routes());
 }
 
 // Puts moves, each a space and two of the letters.
-fn put_moves(page: &mut Page, at: usize, letters: &[u8], count: usize) -> usize
-    requires { (2 * count ≤ length letters.now) × (at + 3 * count ≤ 8192) }
-    ensures value { result ≡ at + 3 * count }
-    ensures puts { Puts page.old at (spaced (take (2 * count) letters.now)) page.new result }
+#[tactic(auto, using(crate::proofs::Page::spaced_pair, crate::proofs::Page::spaced_few))]
+fn put_moves(page: &mut Page, letters: &[u8])
+    requires { 2 * array_vec_len page.old + 3 * length letters.now ≤ 16384 }
+    ensures items { page.new.items ≡ page.old.items ++ spaced letters.now }
+    ensures upper_bound { 2 * array_vec_len page.new ≤ 2 * array_vec_len page.old + 3 * length letters.now }
 {
-    let mut end = at;
-    let mut i = 0;
-    while i < count {
-        page[end] = b' ';
-        page[end + 1] = letters[2 * i];
-        page[end + 2] = letters[2 * i + 1];
-        end += 3;
-        i += 1;
+    for pair in letters.chunks_exact(2) {
+        page.push(b' ');
+        put(page, pair);
     }
-    end
 }
 
 // Puts the moves of a route, or the word long.
-#[tactic(auto, using(crate::proofs::Runs::long_route))]
-fn put_route(page: &mut Page, at: usize, task: &[u8], route: u64, moves: u64) -> usize
-    requires at_bound { at + 3000 ≤ 8192 }
+#[tactic(auto, using(crate::proofs::Runs::long_route, crate::proofs::Runs::run_whole, crate::proofs::Runs::run_text))]
+fn put_route(page: &mut Page, task: &[u8], route: u64, moves: u64)
+    requires room { array_vec_len page.old + 3000 ≤ 8192 }
     requires task_value { (task_check task.now ≡ pass) × (route < count_of task.now) × (moves ≡ length_of task.now) }
-    ensures puts { Puts page.old at (route_text (task_route task.now route)) page.new result }
-    ensures upper_bound { result ≤ at + 3000 }
+    ensures items { page.new.items ≡ page.old.items ++ route_text (task_route task.now route) }
+    ensures upper_bound { array_vec_len page.new ≤ array_vec_len page.old + 3000 }
 {
     if MOST_MOVES < moves {
-        return put(page, at, b" long");
+        put(page, b" long");
+        return;
     }
     let mut letters = [0; 2000];
-    match run::run(task, route, 0, &mut letters) {
-        Err(_) => at,
-        Ok(count) => put_moves(page, at, &letters, count),
-    }
+    let count = run::run(task, route, 0, &mut letters).unwrap();
+    put_moves(page, &letters[..2 * count]);
 }
 
 // Puts the line of a route.
-fn put_route_line(page: &mut Page, at: usize, task: &[u8], route: u64, moves: u64) -> usize
-    requires at_bound { at + 3021 ≤ 8192 }
+fn put_route_line(page: &mut Page, task: &[u8], route: u64, moves: u64)
+    requires room { array_vec_len page.old + 3021 ≤ 8192 }
     requires task_value { (task_check task.now ≡ pass) × (route < count_of task.now) × (moves ≡ length_of task.now) }
-    ensures puts { Puts page.old at (route_line route (task_route task.now route)) page.new result }
-    ensures upper_bound { result ≤ at + 3021 }
+    ensures items { page.new.items ≡ page.old.items ++ route_line route (task_route task.now route) }
+    ensures upper_bound { array_vec_len page.new ≤ array_vec_len page.old + 3021 }
 {
-    let first = put_decimal(page, at, route);
-    let end = put_route(page, first, task, route, moves);
-    put(page, end, b"\n")
+    put_decimal(page, route);
+    put_route(page, task, route, moves);
+    put(page, b"\n");
 }
 
-// Puts the report of a task at the start of a page.
-pub fn put_report(page: &mut Page, task: &[u8], p: Plan) -> usize
-    requires { (task_check task.now ≡ pass) × (p ≡ plan_of (start task.now) (goal task.now)) }
-    ensures puts { Puts page.old 0 (report_text (start task.now) (goal task.now)) page.new result }
-    ensures upper_bound { result ≤ 8192 }
+// Puts the report of a task.
+#[tactic(auto, using(crate::proofs::Runs::lines_none, crate::proofs::Runs::lines_more, crate::proofs::Runs::few_routes), unfolding(crate::specs::Report::report_text))]
+pub fn put_report(page: &mut Page, task: &[u8], plan: Plan)
+    requires room { array_vec_len page.old + 6183 ≤ 8192 }
+    requires task_value { (task_check task.now ≡ pass) × (plan ≡ plan_of (start task.now) (goal task.now)) }
+    ensures { page.new.items ≡ page.old.items ++ report_text (start task.now) (goal task.now) }
 {
-    let moves = p.shortest();
-    let first = put_head(page, p);
-    let second = put_route_line(page, first, task, 0, moves);
-    if p.routes() == 1 {
-        return second;
+    put_head(page, plan);
+    for route in 0..plan.routes() {
+        put_route_line(page, task, route, plan.shortest());
     }
-    put_route_line(page, second, task, 1, moves)
 }

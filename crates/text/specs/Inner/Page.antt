@@ -1,20 +1,23 @@
--- What putting a text onto a page does.
-use Rattle.std.specs.Prelude.{ℕ, ◌+◌, ◌≡◌, List, [], ◌∷◌, length}
-use Rattle.std.proofs.lemmas.List.Edits.{sets}
-use Rattle.board.specs.Reply.{answer, ◌>>◌}
-use Rattle.board.specs.Task.{start, goal, task_check}
-use Rattle.text.specs.Answer.{printed}
+-- What the reader and the report promise.
+use Rattle.std.specs.Prelude.{ℕ, not, List, [], ◌∷◌, ◌++◌, eqb, length, Result, Ok, Err}
+use Rattle.arrayvec.specs.ArrayVec.{ArrayVec}
+use Rattle.board.specs.Refusal.{number}
+use Rattle.board.specs.Reply.{Reply, refused, answer, ◌>>◌, check}
+use Rattle.board.specs.declared.refusal.Refusal.{Refusal}
 use Rattle.text.specs.Input.{space}
-use Rattle.text.specs.Report.{report_text}
+use Rattle.text.specs.Reading.{is_text, start_in, goal_in}
 
--- The text t is put onto the page p from the place `at` on: the page is then q, and the place after the text is `end`.
-pub record Puts (p : List ℕ) (at : ℕ) (t q : List ℕ) (end : ℕ) : Type 0 where
-  pub place : end ≡ at + length t
-  pub page : q ≡ sets p at t
+-- What a list of bytes says, or its refusal.
+abbrev pub bytes_reply : Result (ArrayVec ℕ) Refusal → Reply (List ℕ)
+bytes_reply (Ok list) = answer list.items
+bytes_reply (Err why) = refused (number why)
 
--- What is put for a task: its refusal, or its report.
-unfoldable pub task_text : List ℕ → List ℕ
-task_text t = printed (do task_check t; answer (report_text (start t) (goal t)))
+-- What is read: 12, other text; 1, unequal counts; else the digits of both lines.
+unfoldable pub read_answer : List ℕ → Reply (List ℕ)
+read_answer b = do
+  check (not (is_text b)) 12
+  check (not (eqb (length (start_in b)) (length (goal_in b)))) 1
+  answer (start_in b ++ goal_in b)
 
 -- A space before each two of the letters.
 unfoldable pub spaced : List ℕ → List ℕ

@@ -1,16 +1,12 @@
--- `text::read::line_end` meets its contract: the byte is looked for from the first on. Assumes nothing.
-use Rattle.std.proofs.Common.{arith}
-use Rattle.text.proofs.Reading.{end_here, end_past, end_none}
+-- `text::read::line_end` meets its contract: the first newline is looked for.
+use Rattle.std.proofs.Common.{eqb, rules, tests}
+use Rattle.std.proofs.lemmas.Iterator.{YieldsList-from_slice}
+use Rattle.std.proofs.lemmas.Iterator.Search.{position_from_yields_List}
+use Rattle.text.specs.Input.{newline}
+use Rattle.text.proofs.Reading.{end_position}
 use Rattle.text.proofs.read.line_end.Goals as goal
 
--- The byte at `i` ends the line, and none before it.
-pub returns-then-b-eq-NEWLINE : goal.returns-then-b-eq-NEWLINE
-returns-then-b-eq-NEWLINE c = omega (arith, end_here c.args.input.now c.loop-i.i (omega arith) c.if-b-eq-NEWLINE.true)
-
--- The byte at `i` does not.
-pub loop-i-preserved : goal.loop-i-preserved
-loop-i-preserved c = omega (arith, end_past c.args.input.now c.loop-i.i (omega arith) c.if-b-eq-NEWLINE.false)
-
--- No byte is left.
-pub returns : goal.returns
-returns c = omega (arith, end_none c.args.input.now c.loop-i.i (omega arith))
+pub returns-clause-value : goal.returns-clause-value
+returns-clause-value c =
+    let found = position_from_yields_List (λ b. eqb b newline) _ _ c.position.result c.position.ensures.ran (YieldsList-from_slice c.args.input.now cc) (λ x b q k. search (rules, tests)) in
+    rw (end_position, ← found) c.unwrap_or.ensures
