@@ -5,14 +5,10 @@ use mathlib.Core.List.{List, [], ◌∷◌, ◌++◌, append-nil, append_assoc}
 use mathlib.Core.Logic.{⊎_elim}
 use native.Mathlib.Omega.{arith}
 use borrow.Author.Tests.{lt-ltb, le-ltb}
-use lib.ListN.{length, take, drop, replicate}
+use lib.ListN.{length, take, drop}
 use lib.Seq.{take_at, take_all}
-use Rattle.std.specs.Prelude.{Result, Ok, Err}
-use Rattle.board.specs.Refusal.{reply_of}
 use Rattle.board.specs.Reply.{answer, pass}
 use Rattle.board.specs.Task.{task_check}
-use Rattle.board.specs.declared.refusal.Refusal.{Refusal}
-use Rattle.board.proofs.Replies.{answer_same, refused_answer}
 use Rattle.plan.specs.Plan.{plan_of, routes}
 use Rattle.route.proofs.Shortest.Distinct.{routes_count}
 use Rattle.route.specs.Answer.{length_of, count_of, task_route, run_answer, run_writes, letters}
