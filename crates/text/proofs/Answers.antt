@@ -32,17 +32,18 @@ task_answer t = do
   task_check t
   answer (report_text (start t) (goal t))
 
+-- After two checks come those of the task, or the task itself.
+then_task : (k l : ℕ) (other : Bool) (s g : List ℕ) (same : Bool) → eqb (length s) (length g) ≡ same
+    → (check other k >> (check (not same) l >> (check (ltb limit (length s)) 2 >> (check (not (well_formed (s ++ g))) 3 >> answer (report_text s g)))))
+    ≡ ((check other k >> (check (not same) l >> answer (s ++ g))) >>= task_answer)
+then_task k l true s g same e = refl
+then_task k l false s g false e = refl
+then_task k l false s g true e =
+    let same = eqb-true (length s) (length g) e in
+    let (_, first, second) = joined_task s g same in
+    rw (joined_check s g _ same, first, second)
+
 -- An input is answered as the task that is read.
 pub answer_read : (b : List ℕ) → text_answer b ≡ (read_answer b >>= task_answer)
 unfolding text_answer read_answer
-answer_read b = by (is_text b) (eqb (length (start_in b)) (length (goal_in b))) refl
-  where
-    by : (is same : Bool) → eqb (length (start_in b)) (length (goal_in b)) ≡ same
-        → (check (not is) 12 >> (check (not same) 1 >> (check (ltb limit (length (start_in b))) 2 >> (check (not (well_formed (start_in b ++ goal_in b))) 3 >> answer (report_text (start_in b) (goal_in b))))))
-        ≡ ((check (not is) 12 >> (check (not same) 1 >> answer (start_in b ++ goal_in b))) >>= task_answer)
-    by false same e = refl
-    by true false e = refl
-    by true true e =
-        let same = eqb-true (length (start_in b)) (length (goal_in b)) e in
-        let (_, first, second) = joined_task (start_in b) (goal_in b) same in
-        rw (joined_check (start_in b) (goal_in b) _ same, first, second)
+answer_read b = then_task _ _ (not (is_text b)) (start_in b) (goal_in b) (eqb (length (start_in b)) (length (goal_in b))) refl
