@@ -17,6 +17,7 @@ returns-in_err-plan c =
     let p = err_from_is_err_and c.from_residual-in_err-plan.result c.from_residual-in_err-plan.ensures.1 in
     rw (p.1, p.2, answer_read, ← c.in_ok-digits.ensures, ← c.as_slice-task.ensures.value, plan_refused _ (sym c.in_err-plan.ensures))
 
+-- A planned task is accepted.
 pub put_report-requires-clause-task_value : goal.put_report-requires-clause-task_value
 put_report-requires-clause-task_value c =
     let o = plan_answered _ (sym c.in_ok-plan.ensures) in (o.accepted, sym o.plan)

@@ -1,3 +1,4 @@
+-- What is put and the moves of the letters that are left are all moves; a pair of letters takes three bytes.
 use Rattle.std.proofs.Common.{◌≡◌, ◌+◌, ◌*◌, ◌++◌, ◌≤◌, length}
 use Rattle.std.specs.Slice.Iter.{chunks_exact_rest, chunks_exact_size}
 use Rattle.text.specs.Inner.Page.{spaced}

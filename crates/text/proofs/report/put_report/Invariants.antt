@@ -1,3 +1,4 @@
+-- The lines of the routes below `route` are put, each of at most 3,021 bytes.
 use Rattle.std.proofs.Common.{◌≡◌, ◌+◌, ◌*◌, ◌++◌, ◌≤◌, length}
 use Rattle.board.specs.Task.{start, goal}
 use Rattle.text.specs.Report.{route_lines}
