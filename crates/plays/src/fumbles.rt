@@ -1,6 +1,6 @@
 // Each refusal of a play, with the record before it and after it.
 use crate::say;
-use session::{Counts, PLAY_LIMIT, Session, begin, play_on};
+use session::{PLAY_LIMIT, Session, begin, play_on};
 use std::io;
 
 // Writes the record, makes a play, and writes the record again.
@@ -18,47 +18,28 @@ fn moves(rt: &impl Print, session: Session) -> io::Result<()> {
     Ok(())
 }
 
-// A legal move and one that would be refused with 9.
-fn both(rt: &impl Print, session: Session) -> io::Result<()> {
+// A legal move and one that would be refused with 9, on a record that is first damaged.
+fn damaged<F: FnOnce(&mut Session)>(
+    rt: &impl Print,
+    mut session: Session,
+    damage: F,
+) -> io::Result<()>
+    requires { F.IsAlwaysCallable damage }
+{
+    damage(&mut session);
     around(rt, session, 0, 1)?;
     around(rt, session, 0, 2)
 }
 
 // The refusals of a record: 10 for what remains and for the fumbles, 11 for the plays made and for the fumbles.
 fn records(rt: &impl Print, session: Session) -> io::Result<()> {
-    let full = Counts {
-        made: PLAY_LIMIT,
-        level: PLAY_LIMIT - 1,
-        ..session.counts
-    };
-    both(
-        rt,
-        Session {
-            remaining: 1,
-            ..session
-        },
-    )?;
-    both(
-        rt,
-        Session {
-            fumbles: PLAY_LIMIT + 1,
-            ..session
-        },
-    )?;
-    both(
-        rt,
-        Session {
-            counts: full,
-            ..session
-        },
-    )?;
-    both(
-        rt,
-        Session {
-            fumbles: PLAY_LIMIT,
-            ..session
-        },
-    )
+    damaged(rt, session, |s| s.remaining = 1)?;
+    damaged(rt, session, |s| s.fumbles = PLAY_LIMIT + 1)?;
+    damaged(rt, session, |s| {
+        s.counts.made = PLAY_LIMIT;
+        s.counts.level = PLAY_LIMIT - 1;
+    })?;
+    damaged(rt, session, |s| s.fumbles = PLAY_LIMIT)
 }
 
 // On [1, 0] to [0, 1] after B to C.

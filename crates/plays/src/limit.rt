@@ -6,8 +6,8 @@ use std::io;
 // The record after as many plays on [0] to [1], from a list of them over and over.
 fn played_out(plays: &[(u8, u8)]) -> Session {
     let mut session = begin(b"\x00\x01").session;
-    for (from, to) in plays.iter().cycle().take(PLAY_LIMIT as usize) {
-        let _ = play(&mut session, *from, *to);
+    for &(from, to) in plays.iter().cycle().take(PLAY_LIMIT as usize) {
+        let _ = play(&mut session, from, to);
     }
     session
 }

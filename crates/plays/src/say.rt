@@ -27,8 +27,8 @@ pub fn play(rt: &impl Print, session: &mut Session, from: u8, to: u8) -> io::Res
 
 // Makes a list of plays, each a from and a to.
 pub fn plays(rt: &impl Print, session: &mut Session, plays: &[(u8, u8)]) -> io::Result<()> {
-    for (from, to) in plays {
-        play(rt, session, *from, *to)?;
+    for &(from, to) in plays {
+        play(rt, session, from, to)?;
     }
     Ok(())
 }
