@@ -1,9 +1,9 @@
 // A search of every pair of positions, compared with what the library answers.
 //
 // For n from 0 to 6 discs, and for each of the 3^n positions as the start, a breadth-first search over the legal moves finds the distance
-// of every position and the number of shortest lists of moves to it. It takes nothing from the library: a position is a number in base 3,
-// digit d the peg of disc d + 1, and the legal moves are told from the tops of the pegs. The answers of Plan, Move, Place, Run, Parts,
-// Wear, the checker, Locate and Totals are compared with that. A line for each n has
+// of every position and the number of shortest lists of moves to it. It takes nothing from the library: the legal moves are told from the
+// smallest disc on each peg. The answers of Plan, Move, Place, Run, Parts, Wear, the checker, Locate and Totals are compared with that. A
+// line for each n has
 //   pairs    the ordered pairs of a start and a goal
 //   sum      the distances of all of them, added up
 //   ties     the pairs with two shortest lists
@@ -24,47 +24,22 @@
 //   wrong    the comparisons that fail, which the other columns but pairs, sum, ties and moves leave out
 #![tactic(auto)]
 
+mod distances;
 mod listing;
 mod locating;
 mod pairs;
 mod parting;
 mod position;
-mod spread;
 mod tally;
-mod totalling;
 mod walking;
-mod wearing;
 
-use show::named;
 use std::io;
-use tally::Tally;
-use totalling::compared;
 
 fn main(rt: HostRuntime) -> io::Result<()> {
-    let mut n = 0;
-    while n < 7 {
-        write_line(&rt, n, compared(pairs::all_pairs(n), n))?;
-        n += 1;
+    for n in 0..7 {
+        let mut tally = pairs::all_pairs(rt.alloc(), n)?;
+        tally.add_totals(n as u64);
+        println!(rt; "{n} discs: {tally}")?;
     }
     Ok(())
-}
-
-// Writes the line of a size.
-fn write_line(rt: &impl Print, n: usize, t: Tally) -> io::Result<()> {
-    show::number(rt, n as u64)?;
-    named(rt, b" discs: pairs ", t.pairs)?;
-    named(rt, b", sum ", t.sum)?;
-    named(rt, b", ties ", t.ties)?;
-    named(rt, b", lengths ", t.lengths)?;
-    named(rt, b", counts ", t.counts)?;
-    named(rt, b", routes ", t.routes)?;
-    named(rt, b", parts ", t.parts)?;
-    named(rt, b", wears ", t.wears)?;
-    named(rt, b", known ", t.known)?;
-    named(rt, b", lists ", t.lists)?;
-    named(rt, b", moves ", t.moves)?;
-    named(rt, b", located ", t.located)?;
-    named(rt, b", totals ", t.totals)?;
-    named(rt, b", wrong ", t.wrong)?;
-    show::text(rt, b"\n")
 }

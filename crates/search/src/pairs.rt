@@ -1,128 +1,103 @@
 // Every pair of a start and a goal of a size.
-ghost use Rattle.std.specs.Prelude.{◌<◌, ◌≤◌};
+ghost use Rattle.std.specs.Prelude.{◌≤◌};
 
-use crate::listing::all_lists;
-use crate::locating::right_positions;
-use crate::position::{power, write_links, write_pegs};
-use crate::spread::spread;
-use crate::tally::{MANY, Tally};
-use crate::walking::right_routes;
-use plan::Planned;
+use crate::distances::{Reach, all_reaches};
+use crate::position::Position;
+use crate::tally::Tally;
+use std::alloc::{AllocError, Global};
 
-// Plan's length of a task, or MANY where it refuses.
-fn plan_length(task: &[u8]) -> u64 {
-    match plan::plan(task) {
-        Planned::Plan(p) => p.shortest(),
-        Planned::Refused(_) => MANY,
+// The positions of a size, and how far each is from each.
+#[derive(Drop)]
+struct Board {
+    positions: Vec<Position>,
+    reaches: Vec<Vec<Option<Reach>>>,
+}
+
+// The task of a start and a goal, with what the search says of it: the distance and the number of shortest lists of moves, and how far
+// each position is from the start and from the goal.
+#[derive(Clone, Copy)]
+pub struct Pair<'a> {
+    pub task: &'a [u8],
+    pub start: Position,
+    pub goal: Position,
+    pub distance: u64,
+    pub lists: u64,
+    pub positions: &'a [Position],
+    pub from_start: &'a [Option<Reach>],
+    pub from_goal: &'a [Option<Reach>],
+}
+
+impl Pair<'_> {
+    // The comparisons of the pair.
+    fn compare(&self, alloc: Global, tally: &mut Tally) -> Result<(), AllocError> {
+        tally.add_pair(self.distance, self.lists);
+        let plan = plan::plan(self.task);
+        tally
+            .lengths
+            .add(plan.is_ok_and(|plan| plan.shortest() == self.distance));
+        tally
+            .counts
+            .add(plan.is_ok_and(|plan| plan.routes() == self.lists));
+        for route in 0..self.lists {
+            self.compare_route(route, tally);
+        }
+        self.compare_positions(&mut tally.located);
+        self.compare_lists(alloc, &mut tally.lists)
+    }
+
+    // The comparisons of a route.
+    fn compare_route(&self, route: u64, tally: &mut Tally) {
+        let mut walk = self.walk(route);
+        tally.routes.add(walk.reaches_goal());
+        tally.wears.add(walk.is_worn());
+        tally.parts.add(self.is_parted(route));
+        tally.known.add(self.is_known(route));
     }
 }
 
-// Plan's number of routes of a task, or MANY where it refuses.
-fn plan_routes(task: &[u8]) -> u64 {
-    match plan::plan(task) {
-        Planned::Plan(p) => p.routes(),
-        Planned::Refused(_) => MANY,
+impl Board {
+    // The comparisons of a start and every goal.
+    fn compare_from(
+        &self,
+        alloc: Global,
+        start: Position,
+        from_start: &[Option<Reach>],
+        tally: &mut Tally,
+    ) -> Result<(), AllocError> {
+        let goals = self.positions.iter().zip(&self.reaches);
+        for ((goal, from_goal), reach) in goals.zip(from_start) {
+            // A goal that the search does not reach is a wrong length.
+            let Some(reach) = reach else {
+                tally.lengths.add(false);
+                continue;
+            };
+            let task = [start.pegs(), goal.pegs()].concat(alloc)?;
+            let pair = Pair {
+                task: &task,
+                start,
+                goal: *goal,
+                distance: reach.moves,
+                lists: reach.lists,
+                positions: &self.positions,
+                from_start,
+                from_goal,
+            };
+            pair.compare(alloc, tally)?;
+        }
+        Ok(())
     }
 }
 
-// With the comparisons of the task of a start and a goal, by the distances from the start and the numbers of shortest lists.
-fn with_task(
-    t: Tally,
-    links: &[usize; 2187],
-    task: &[u8],
-    n: usize,
-    size: usize,
-    start: usize,
-    goal: usize,
-    near: &[u64; 729],
-    count: u64,
-) -> Tally
-    requires { (size ≤ 729) × (goal < 729) }
-{
-    let distance = near[goal];
-    let planned = t.with_plan(
-        distance,
-        count,
-        plan_length(task) == distance,
-        plan_routes(task) == count,
-    );
-    let routes = right_routes(task, n, start, goal, distance, count);
-    let walked = planned
-        .with_routes(distance, count, routes)
-        .with_lists(all_lists(task, n, start, goal, distance));
-    let right = right_positions(links, task, n, size, goal, near, distance);
-    walked.with_positions(size as u64, right)
-}
-
-// With the comparisons of a start and a goal.
-fn with_pair(
-    t: Tally,
-    links: &[usize; 2187],
-    n: usize,
-    size: usize,
-    start: usize,
-    goal: usize,
-    near: &[u64; 729],
-    count: u64,
-) -> Tally
-    requires { (n ≤ 6) × (size ≤ 729) × (goal < 729) }
-{
-    let mut bytes = [0u8; 12];
-    write_pegs(start, n, 0, &mut bytes);
-    write_pegs(goal, n, n, &mut bytes);
-    let both = 2 * n;
-    with_task(t, links, &bytes[..both], n, size, start, goal, near, count)
-}
-
-// With the comparisons of a start and every goal.
-fn with_goals(
-    tally: Tally,
-    links: &[usize; 2187],
-    n: usize,
-    size: usize,
-    start: usize,
-    near: &[u64; 729],
-    lists: &[u64; 729],
-) -> Tally
-    requires { (n ≤ 6) × (size ≤ 729) }
-{
-    let mut t = tally;
-    let mut goal = 0;
-    while goal < size {
-        t = with_pair(t, links, n, size, start, goal, near, lists[goal]);
-        goal += 1;
-    }
-    t
-}
-
-// With the comparisons of a start.
-fn with_start(t: Tally, links: &[usize; 2187], n: usize, size: usize, start: usize) -> Tally
-    requires { (n ≤ 6) × (size ≤ 729) }
-{
-    let mut near = [0u64; 729];
-    let mut lists = [0u64; 729];
-    spread(links, start, &mut near, &mut lists);
-    with_goals(t, links, n, size, start, &near, &lists)
-}
-
-// The comparisons of every start.
-fn all_starts(links: &[usize; 2187], n: usize, size: usize) -> Tally
-    requires { (n ≤ 6) × (size ≤ 729) }
-{
-    let mut t = Tally::none();
-    let mut start = 0;
-    while start < size {
-        t = with_start(t, links, n, size, start);
-        start += 1;
-    }
-    t
-}
-
-// The comparisons of a size.
-pub fn all_pairs(n: usize) -> Tally
+// The comparisons of every pair of n discs.
+pub fn all_pairs(alloc: Global, n: usize) -> Result<Tally, AllocError>
     requires { n ≤ 6 }
 {
-    let mut links = [0usize; 2187];
-    write_links(n, &mut links);
-    all_starts(&links, n, power(n))
+    let positions = Position::all(alloc, n)?;
+    let reaches = all_reaches(alloc, &positions)?;
+    let board = Board { positions, reaches };
+    let mut tally = Tally::default();
+    for (start, from_start) in board.positions.iter().zip(&board.reaches) {
+        board.compare_from(alloc, *start, from_start, &mut tally)?;
+    }
+    Ok(tally)
 }

@@ -1,133 +1,79 @@
-// Positions as numbers in base 3, digit d the peg of disc d + 1, and the legal moves from the rules of the puzzle alone.
-ghost use Rattle.std.specs.Prelude.{◌<◌, ◌≤◌, length, ◌≡◌};
+// Positions of up to 6 discs, and the legal moves from the rules of the puzzle alone.
+ghost use Rattle.std.specs.Prelude.{◌<◌, ◌≤◌, length, IfSome};
 
-// No position: above the number of any position of 6 discs.
-pub const NONE: usize = 729;
+use std::alloc::{AllocError, Global};
 
-// 3^d, for d up to 6.
-pub fn power(d: usize) -> usize
-    ensures { (0 < result) × (result ≤ 729) }
-{
-    match d {
-        0 => 1,
-        1 => 3,
-        2 => 9,
-        3 => 27,
-        4 => 81,
-        5 => 243,
-        _ => 729,
-    }
+// The moves from each peg to each other.
+pub const MOVES: [(u8, u8); 6] = [(0, 1), (0, 2), (1, 0), (1, 2), (2, 0), (2, 1)];
+
+// The peg of each disc, from the smallest disc on.
+#[derive(Clone, Copy, PartialEq, Eq)]
+pub struct Position {
+    discs: usize,
+    pegs: [u8; 6],
+    ghost few: { discs ≤ 6 },
 }
 
-// The smallest disc on a peg, counted from 0, or n where the peg is empty.
-pub fn top(position: usize, n: usize, peg: usize) -> usize {
-    let mut rest = position;
-    let mut d = 0;
-    while d < n {
-        if rest % 3 == peg {
-            return d;
+// Positions three times, with a disc, counted from 0, on each peg.
+fn on_each_peg(
+    alloc: Global,
+    positions: &[Position],
+    disc: usize,
+) -> Result<Vec<Position>, AllocError>
+    requires { disc < 6 }
+{
+    let mut more = Vec::new(alloc);
+    for position in positions {
+        more.extend_from_slice(&[
+            position.with(disc, 0),
+            position.with(disc, 1),
+            position.with(disc, 2),
+        ])?;
+    }
+    Ok(more)
+}
+
+impl Position {
+    // The same position but for one disc, counted from 0.
+    fn with(mut self, disc: usize, peg: u8) -> Position
+        requires { disc < 6 }
+    {
+        self.pegs[disc] = peg;
+        self
+    }
+
+    // All positions of so many discs.
+    pub fn all(alloc: Global, discs: usize) -> Result<Vec<Position>, AllocError>
+        requires { discs ≤ 6 }
+    {
+        let pegs = [0; 6];
+        let mut positions = vec![in alloc; Position { discs, pegs }]?;
+        for disc in 0..discs {
+            positions = on_each_peg(alloc, &positions, disc)?;
         }
-        rest /= 3;
-        d += 1;
+        Ok(positions)
     }
-    n
-}
 
-// What a disc, counted from 0, on a peg adds to the number of a position.
-fn weight(d: usize, peg: usize) -> usize
-    ensures { result ≤ 1458 }
-{
-    let one = power(d);
-    match peg {
-        0 => 0,
-        1 => one,
-        _ => one + one,
+    // The peg of each disc.
+    pub fn pegs(&self) -> &[u8]
+        ensures { length result.now ≤ 6 }
+    {
+        &self.pegs[..self.discs]
     }
-}
 
-// A position with the weight of one disc taken out and another put in.
-fn exchanged(position: usize, out: usize, into: usize) -> usize
-    requires { into ≤ 1458 }
-{
-    if NONE <= position {
-        return NONE;
+    // The smallest disc on a peg, counted from 0.
+    pub fn top(&self, peg: u8) -> Option<usize>
+        ensures { IfSome result (λ disc. disc < 6) }
+    {
+        self.pegs().iter().position(|at| *at == peg)
     }
-    if position < out {
-        return NONE;
-    }
-    position - out + into
-}
 
-// The position after the smallest disc of a peg goes to another peg, or NONE where that is not legal: the peg has no disc, the other is no
-// peg or has a smaller disc.
-pub fn after(position: usize, n: usize, from: usize, to: usize) -> usize {
-    let disc = top(position, n, from);
-    if disc == n {
-        return NONE;
-    }
-    if 2 < to {
-        return NONE;
-    }
-    if top(position, n, to) <= disc {
-        return NONE;
-    }
-    exchanged(position, weight(disc, from), weight(disc, to))
-}
-
-// The position after the one legal move between two pegs, or NONE where both are empty.
-fn between(position: usize, n: usize, one: usize, other: usize) -> usize {
-    let there = after(position, n, one, other);
-    if there < NONE {
-        return there;
-    }
-    after(position, n, other, one)
-}
-
-// Writes the positions that are a move from each position p, at most three, at 3 * p, 3 * p + 1 and 3 * p + 2, and NONE where there is none.
-pub fn write_links(n: usize, links: &mut [usize; 2187]) {
-    let mut i = 0;
-    while i < 2187 {
-        let k = i % 3;
-        links[i] = between(i / 3, n, k, (k + 1) % 3);
-        i += 1;
-    }
-}
-
-// Writes the pegs of a position of n discs as bytes from an index on.
-pub fn write_pegs(position: usize, n: usize, first: usize, out: &mut [u8; 12])
-    requires { (n ≤ 6) × (first ≤ 6) }
-    ensures { length out.new ≡ length out.old }
-{
-    let mut rest = position;
-    let mut d = 0;
-    while d < n {
-        out[first + d] = (rest % 3) as u8;
-        rest /= 3;
-        d += 1;
-    }
-}
-
-// Whether the first n bytes are the pegs of a position, and each byte after them is 3.
-pub fn are_pegs(bytes: &[u8; 6], n: usize, position: usize) -> bool {
-    let mut rest = position;
-    let mut d = 0;
-    while d < 6 {
-        if d < n {
-            if wide(bytes[d]) != rest % 3 {
-                return false;
-            }
-            rest /= 3;
-        } else {
-            if bytes[d] != 3 {
-                return false;
-            }
+    // The position after the smallest disc of a peg goes to another, where that is legal: a peg, with no smaller disc.
+    pub fn after(self, from: u8, to: u8) -> Option<Position> {
+        let disc = self.top(from)?;
+        if 2 < to || self.top(to).is_some_and(|other| other <= disc) {
+            return None;
         }
-        d += 1;
+        Some(self.with(disc, to))
     }
-    rest == 0
-}
-
-// A byte as a number.
-pub fn wide(byte: u8) -> usize {
-    byte as usize
 }

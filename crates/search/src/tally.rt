@@ -1,121 +1,104 @@
 // What the search of a size counts.
-use crate::listing::Lists;
-use crate::walking::Right;
+use std::fmt;
 
-// More than any count here.
-pub const MANY: u64 = 4611686018427387904;
-
-// The sum of two counts, or MANY where one is not below it.
-pub fn plus(a: u64, b: u64) -> u64 {
-    if a < MANY {
-        if b < MANY {
-            return a + b;
-        }
-    }
-    MANY
+// Comparisons of one kind: how many hold, and how many fail.
+#[derive(Clone, Copy, Default)]
+pub struct Count {
+    right: u64,
+    wrong: u64,
 }
 
-// 1 if a comparison holds, else 0.
-pub fn one_if(holds: bool) -> u64 {
-    if holds { 1 } else { 0 }
-}
-
-// The comparisons that fail, of all and of those that hold.
-fn failing(all: u64, right: u64) -> u64 {
-    if right <= all {
-        return all - right;
+impl Count {
+    // One comparison more.
+    pub fn add(&mut self, holds: bool) {
+        let count = if holds {
+            &mut self.right
+        } else {
+            &mut self.wrong
+        };
+        *count = count.saturating_add(1);
     }
-    MANY
 }
 
 // The fields of a line.
-#[derive(Clone, Copy)]
+#[derive(Clone, Copy, Default)]
 pub struct Tally {
     pub pairs: u64,
     pub sum: u64,
     pub ties: u64,
-    pub lengths: u64,
-    pub counts: u64,
-    pub routes: u64,
-    pub parts: u64,
-    pub wears: u64,
-    pub known: u64,
-    pub lists: u64,
+    pub lengths: Count,
+    pub counts: Count,
+    pub routes: Count,
+    pub parts: Count,
+    pub wears: Count,
+    pub known: Count,
+    pub lists: Count,
     pub moves: u64,
-    pub located: u64,
-    pub totals: u64,
-    pub wrong: u64,
+    pub located: Count,
+    pub totals: Count,
 }
 
 impl Tally {
-    pub fn none() -> Tally {
-        Tally {
-            pairs: 0,
-            sum: 0,
-            ties: 0,
-            lengths: 0,
-            counts: 0,
-            routes: 0,
-            parts: 0,
-            wears: 0,
-            known: 0,
-            lists: 0,
-            moves: 0,
-            located: 0,
-            totals: 0,
-            wrong: 0,
-        }
+    // A pair of a distance and a number of shortest lists.
+    pub fn add_pair(&mut self, distance: u64, lists: u64) {
+        self.pairs = self.pairs.saturating_add(1);
+        self.sum = self.sum.saturating_add(distance);
+        self.ties = self.ties.saturating_add(u64::from(lists == 2));
+        self.moves = self.moves.saturating_add(distance.saturating_mul(lists));
     }
 
-    // With so many comparisons, of which so many hold.
-    fn judged(mut self, all: u64, right: u64) -> Tally {
-        self.wrong = plus(self.wrong, failing(all, right));
-        self
+    // The totals of n discs, by what Totals answers.
+    pub fn add_totals(&mut self, n: u64) {
+        let totals = averages::totals(n);
+        self.totals
+            .add(totals.is_ok_and(|totals| totals.sum == self.sum));
+        self.totals
+            .add(totals.is_ok_and(|totals| totals.ties == self.ties));
     }
 
-    // With a pair of a distance and a number of shortest lists, and whether Plan's length and its number of routes are those.
-    pub fn with_plan(mut self, distance: u64, lists: u64, length: bool, count: bool) -> Tally {
-        let right_length = one_if(length);
-        let right_count = one_if(count);
-        self.pairs = plus(self.pairs, 1);
-        self.sum = plus(self.sum, distance);
-        self.ties = plus(self.ties, one_if(lists == 2));
-        self.lengths = plus(self.lengths, right_length);
-        self.counts = plus(self.counts, right_count);
-        self.judged(2, plus(right_length, right_count))
+    // The comparisons that fail.
+    fn wrong(&self) -> u64 {
+        [
+            self.lengths,
+            self.counts,
+            self.routes,
+            self.parts,
+            self.wears,
+            self.known,
+            self.lists,
+            self.located,
+            self.totals,
+        ]
+        .iter()
+        .fold(0u64, |wrong, count| wrong.saturating_add(count.wrong))
     }
+}
 
-    // With the routes of a pair of a distance and a number of shortest lists, of which so many are right.
-    pub fn with_routes(mut self, distance: u64, lists: u64, right: Right) -> Tally {
-        self.routes = plus(self.routes, right.routes);
-        self.parts = plus(self.parts, right.parts);
-        self.wears = plus(self.wears, right.wears);
-        self.known = plus(self.known, right.known);
-        self.moves = plus(self.moves, distance);
-        if lists == 2 {
-            self.moves = plus(self.moves, distance);
-        }
-        self.judged(lists, right.routes)
-            .judged(lists, right.parts)
-            .judged(lists, right.wears)
-            .judged(lists, right.known)
-    }
-
-    // With the lists of legal moves of a pair.
-    pub fn with_lists(mut self, lists: Lists) -> Tally {
-        self.lists = plus(self.lists, lists.right);
-        self.judged(lists.all, lists.right)
-    }
-
-    // With so many positions located on the routes of a pair, of which so many are right.
-    pub fn with_positions(mut self, all: u64, right: u64) -> Tally {
-        self.located = plus(self.located, right);
-        self.judged(all, right)
-    }
-
-    // With the totals of the size, and whether the sum and the number of ties are those of all pairs.
-    pub fn with_totals(mut self, sum: bool, ties: bool) -> Tally {
-        self.totals = plus(one_if(sum), one_if(ties));
-        self.judged(2, self.totals)
+impl fmt::Display for Tally {
+    fn fmt<W: fmt::Write>(&self, f: &mut fmt::Formatter<W>) -> fmt::Result {
+        write!(
+            f,
+            "pairs {}, sum {}, ties {}, ",
+            self.pairs, self.sum, self.ties
+        )?;
+        write!(
+            f,
+            "lengths {}, counts {}, routes {}, parts {}, wears {}, known {}, lists {}, ",
+            self.lengths.right,
+            self.counts.right,
+            self.routes.right,
+            self.parts.right,
+            self.wears.right,
+            self.known.right,
+            self.lists.right
+        )?;
+        write!(
+            f,
+            "moves {}, located {}, totals {}, wrong {}",
+            self.moves,
+            self.located.right,
+            self.totals.right,
+            self.wrong()
+        )
     }
 }

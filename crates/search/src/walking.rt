@@ -1,167 +1,101 @@
-// Walks along the routes of a task: Move, Place and Run compared with the legal moves, the moves of each disc counted, and how many routes
-// are right.
-use crate::listing::is_known;
-use crate::parting::{is_parted, largest_moving};
-use crate::position::{NONE, after, are_pegs, top, wide};
-use crate::tally::{MANY, one_if, plus};
-use crate::wearing::{count, is_worn};
-use board::Verdict;
-use route::Moving;
-use run::Ran;
+// Walks along the routes of a task: Move, Place and Run compared with the legal moves, and Wear with how often each disc moves.
+use crate::pairs::Pair;
+use crate::position::Position;
 
-// Whether Place writes a position as the one at an index of a route, and nothing after it.
-pub fn is_placed(task: &[u8], route: u64, index: u64, n: usize, position: usize) -> bool {
-    let mut bytes = [3u8; 6];
-    match route::place(task, route, index, &mut bytes) {
-        Verdict::Refused(_) => false,
-        Verdict::Accepted => are_pegs(&bytes, n, position),
+// What each byte of a position holds before the call.
+const NO_PEG: u8 = 3;
+
+// What each entry of the wears holds before the call.
+const NO_WEAR: u64 = u64::MAX;
+
+// A walk along a route: the position, and how often each disc has moved, with entries beyond the discs.
+#[derive(Clone, Copy)]
+pub struct Walk<'a> {
+    pair: &'a Pair<'a>,
+    route: u64,
+    at: Position,
+    wears: [u64; 7],
+}
+
+// The letter of a peg.
+pub fn letter(peg: u8) -> u8 {
+    match peg {
+        0 => b'A',
+        1 => b'B',
+        _ => b'C',
     }
 }
 
-// Writes a whole route by Run, and returns the number of moves that it answers.
-fn written(task: &[u8], route: u64, letters: &mut [u8; 128]) -> u64 {
-    match run::run(task, route, 0, letters) {
-        Ran::Moves(count) => count as u64,
-        Ran::Refused(_) => MANY,
+impl Pair<'_> {
+    // Whether Place writes a position as the one at an index of a route, and nothing after it.
+    pub fn is_placed(&self, route: u64, index: u64, position: Position) -> bool {
+        let mut bytes = [NO_PEG; 7];
+        let placed = route::place(self.task, route, index, &mut bytes);
+        let (pegs, rest) = bytes.split_at(position.pegs().len());
+        placed.is_ok() && pegs == position.pegs() && rest.iter().all(|byte| *byte == NO_PEG)
     }
-}
 
-// Whether the letters at an index are those of a move.
-fn are_letters(letters: &[u8; 128], index: u64, from: usize, to: usize) -> bool {
-    if 64 <= index {
-        return false;
+    // What Run writes of a whole route.
+    pub fn written<'b>(&self, route: u64, letters: &'b mut [u8; 128]) -> Option<&'b [u8]> {
+        let count = run::run(self.task, route, 0, letters).ok()?;
+        Some(&letters[..2 * count.min(64)])
     }
-    let at = 2 * (index as usize);
-    if 3 <= from {
-        return false;
-    }
-    if 3 <= to {
-        return false;
-    }
-    if wide(letters[at]) != 65 + from {
-        return false;
-    }
-    wide(letters[at + 1]) == 65 + to
-}
 
-// The position after a disc, counted from 1, moves between two pegs, or NONE where that is not legal.
-fn after_disc(at: usize, n: usize, disc: usize, from: usize, to: usize) -> usize {
-    if disc == 0 {
-        return NONE;
-    }
-    if top(at, n, from) != disc - 1 {
-        return NONE;
-    }
-    after(at, n, from, to)
-}
-
-// The position after the move that Move answers for an index, or NONE where that is not legal or the letters are of another move.
-fn moved(task: &[u8], route: u64, index: u64, n: usize, at: usize, letters: &[u8; 128]) -> usize {
-    match route::move_at(task, route, index) {
-        Moving::Refused(_) => NONE,
-        Moving::Move(m, _) => {
-            let from = wide(m.from);
-            let to = wide(m.to);
-            if are_letters(letters, index, from, to) {
-                after_disc(at, n, m.disc, from, to)
-            } else {
-                NONE
-            }
+    // A walk along a route, at the start.
+    pub fn walk(&self, route: u64) -> Walk<'_> {
+        let mut wears = [NO_WEAR; 7];
+        wears[..self.start.pegs().len()].fill(0);
+        Walk {
+            pair: self,
+            route,
+            at: self.start,
+            wears,
         }
     }
 }
 
-// Whether a route of so many moves goes from a start to a goal, by Move, Place and Run alike. Counts the moves of each disc.
-fn is_right(
-    task: &[u8],
-    route: u64,
-    n: usize,
-    start: usize,
-    goal: usize,
-    distance: u64,
-    moves: &mut [u64; 7],
-) -> bool {
-    let mut letters = [0u8; 128];
-    if written(task, route, &mut letters) != distance {
-        return false;
+impl Walk<'_> {
+    // Makes the move that Move answers for an index, where it is legal and the letters are its own.
+    fn make(&mut self, index: u64, letters: &[u8]) -> Option<()> {
+        let (step, _) = route::move_at(self.pair.task, self.route, index).ok()?;
+        if letters != [letter(step.from), letter(step.to)].as_slice() {
+            return None;
+        }
+        let disc = self.at.top(step.from)?;
+        if step.disc != disc + 1 {
+            return None;
+        }
+        self.at = self.at.after(step.from, step.to)?;
+        self.wears[disc] = self.wears[disc].saturating_add(1);
+        Some(())
     }
-    let mut at = start;
-    let mut i = 0;
-    while i < distance {
-        if !is_placed(task, route, i, n, at) {
+
+    // Whether Place has the position at an index.
+    fn is_at(&self, index: u64) -> bool {
+        self.pair.is_placed(self.route, index, self.at)
+    }
+
+    // Walks to the end of the route, and says whether it goes in as many moves as the distance to the goal, by Move, Place and Run alike.
+    pub fn reaches_goal(&mut self) -> bool {
+        let mut buffer = [0; 128];
+        let Some(letters) = self.pair.written(self.route, &mut buffer) else {
+            return false;
+        };
+        if letters.len() as u64 / 2 != self.pair.distance {
             return false;
         }
-        let next = moved(task, route, i, n, at, &letters);
-        count(moves, largest_moving(at, next, n));
-        at = next;
-        i += 1;
+        for (index, letters) in letters.chunks_exact(2).enumerate() {
+            let index = index as u64;
+            if !self.is_at(index) || self.make(index, letters).is_none() {
+                return false;
+            }
+        }
+        self.is_at(self.pair.distance) && self.at == self.pair.goal
     }
-    if !is_placed(task, route, distance, n, at) {
-        return false;
+
+    // Whether Wear writes how often each disc has moved, and nothing after.
+    pub fn is_worn(&self) -> bool {
+        let mut entries = [NO_WEAR; 7];
+        wear::wear(self.pair.task, self.route, &mut entries).is_ok() && entries == self.wears
     }
-    at == goal
-}
-
-// How many routes of a task go right, how many have the right letters, how many the right wears, and how many the checker knows.
-#[derive(Clone, Copy)]
-pub struct Right {
-    pub routes: u64,
-    pub parts: u64,
-    pub wears: u64,
-    pub known: u64,
-}
-
-impl Right {
-    // With one more route.
-    fn with(mut self, route: bool, letters: bool, worn: bool, known: bool) -> Right {
-        self.routes = plus(self.routes, one_if(route));
-        self.parts = plus(self.parts, one_if(letters));
-        self.wears = plus(self.wears, one_if(worn));
-        self.known = plus(self.known, one_if(known));
-        self
-    }
-}
-
-// With one more route of a task, walked from the start.
-fn with_route(
-    right: Right,
-    task: &[u8],
-    route: u64,
-    n: usize,
-    start: usize,
-    goal: usize,
-    distance: u64,
-) -> Right {
-    let mut moves = [0u64; 7];
-    let goes = is_right(task, route, n, start, goal, distance, &mut moves);
-    let largest = largest_moving(start, goal, n);
-    right.with(
-        goes,
-        is_parted(task, route, largest, distance),
-        is_worn(task, route, n, &moves),
-        is_known(task, route),
-    )
-}
-
-// Of the routes of a task, as many as it has shortest lists, those that are right.
-pub fn right_routes(
-    task: &[u8],
-    n: usize,
-    start: usize,
-    goal: usize,
-    distance: u64,
-    lists: u64,
-) -> Right {
-    let mut right = Right {
-        routes: 0,
-        parts: 0,
-        wears: 0,
-        known: 0,
-    };
-    let mut r = 0;
-    while r < lists {
-        right = with_route(right, task, r, n, start, goal, distance);
-        r += 1;
-    }
-    right
 }
