@@ -47,6 +47,12 @@ const SEVERAL: &[(&str, &[u8])] = &[
     ("tie, illegal last, goal not reached", b"BABB"),
 ];
 
+// The two ways across on the detour.
+const ACROSS: &[(&str, &[u8])] = &[
+    ("[1, 1, 0] to [0, 0, 1], the detour", b"ACBCBACACB"),
+    ("[1, 1, 0] to [0, 0, 1], directly", b"BABCACABCACBAB"),
+];
+
 // The lines of several lists on one task.
 fn checks(rt: &impl Print, task: &[u8], lists: &[(&str, &[u8])]) -> io::Result<()> {
     for (name, letters) in lists {
@@ -73,24 +79,17 @@ fn task_refused(rt: &impl Print) -> io::Result<()> {
     lines::check(rt, "byte 3", b"\x00\x03", b"a")
 }
 
-// One disc, a detour, six discs, a still task and no discs, of which the empty list is the route, and 60 discs.
+// One disc, a detour, and six discs.
 fn others(rt: &impl Print) -> io::Result<()> {
-    let tower = tower_task();
-    let cases: [(&str, &[u8], &[u8]); 5] = [
-        ("[0] to [2], AC", b"\x00\x02", b"AC"),
-        ("[0] to [2], AB BC", b"\x00\x02", b"ABBC"),
-        ("[0] to [2], AC AC", b"\x00\x02", b"ACAC"),
-        ("[1, 1, 0] to [0, 0, 1], the detour", DETOUR, b"ACBCBACACB"),
-        (
-            "[1, 1, 0] to [0, 0, 1], directly",
-            DETOUR,
-            b"BABCACABCACBAB",
-        ),
-    ];
-    for (name, task, letters) in cases {
-        lines::check(rt, name, task, letters)?;
-    }
-    lines::check_run(rt, "six discs, what Run writes", SIX, 0)?;
+    lines::check(rt, "[0] to [2], AC", b"\x00\x02", b"AC")?;
+    lines::check(rt, "[0] to [2], AB BC", b"\x00\x02", b"ABBC")?;
+    lines::check(rt, "[0] to [2], AC AC", b"\x00\x02", b"ACAC")?;
+    checks(rt, DETOUR, ACROSS)?;
+    lines::check_run(rt, "six discs, what Run writes", SIX, 0)
+}
+
+// A still task and no discs, of which the empty list is the route, and 60 discs.
+fn still(rt: &impl Print, tower: &[u8]) -> io::Result<()> {
     let cases: [(&str, &[u8], &[u8]); 9] = [
         ("[1, 1] to [1, 1], no moves", b"\x01\x01\x01\x01", b""),
         ("[1, 1] to [1, 1], BA AB", b"\x01\x01\x01\x01", b"BAAB"),
@@ -99,8 +98,8 @@ fn others(rt: &impl Print) -> io::Result<()> {
         ("no discs, AD", b"", b"AD"),
         ("no discs, one letter", b"", b"A"),
         ("60 discs, still, no moves", &[1; 120], b""),
-        ("60 discs, all 0 to all 2, AB AC", &tower, b"ABAC"),
-        ("60 discs, all 0 to all 2, AB AB", &tower, b"ABAB"),
+        ("60 discs, all 0 to all 2, AB AC", tower, b"ABAC"),
+        ("60 discs, all 0 to all 2, AB AB", tower, b"ABAB"),
     ];
     for (name, task, letters) in cases {
         lines::check(rt, name, task, letters)?;
@@ -111,5 +110,6 @@ fn others(rt: &impl Print) -> io::Result<()> {
 pub fn all(rt: &impl Print) -> io::Result<()> {
     tie(rt)?;
     task_refused(rt)?;
-    others(rt)
+    others(rt)?;
+    still(rt, &tower_task())
 }

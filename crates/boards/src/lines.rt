@@ -1,5 +1,4 @@
 // One line for each call: its name, the board's, and what it answers.
-use show::Digits;
 use std::{fmt, io};
 
 // The most bytes or entries of a buffer.
