@@ -1,5 +1,7 @@
 -- The theorems about builders, with the laws that lead to them.
 
+-- The third peg by remainders.
+pub mod Remainders
 -- The three lengths, with a disc more and a disc less.
 pub mod EachPeg
 pub mod Gathers
