@@ -4,7 +4,8 @@ use crate::say;
 use builder::{Builder, Built, add, empty, remove};
 use std::io;
 
-// Makes a change for each digit, which is a peg, and writes how many they are, and after how many of them the lengths are Gather's.
+// Makes a change for each digit, whose last two bits are a peg, and writes how many they are, and after how many of them the lengths are
+// Gather's.
 pub fn changes<F: Fn(Builder, u8) -> Built + Drop>(
     rt: &impl Print,
     b: Builder,

@@ -3,7 +3,7 @@ use board::LIMIT;
 use std::fmt;
 
 // A peg: its letter, or the number where there is no such peg.
-#[derive(Clone, Copy, Debug, PartialEq, Eq)]
+#[derive(Clone, Copy)]
 pub struct Peg(pub u8);
 
 impl fmt::Display for Peg {
@@ -18,7 +18,7 @@ impl fmt::Display for Peg {
 }
 
 // The bytes of a position as digits, with a dot for any other byte, as a buffer comes filled.
-#[derive(Clone, Copy, Debug, PartialEq, Eq)]
+#[derive(Clone, Copy)]
 pub struct Digits<'a>(pub &'a [u8]);
 
 impl fmt::Display for Digits<'_> {
