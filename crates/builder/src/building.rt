@@ -10,7 +10,8 @@ use crate::sound::is_sound;
 use board::{LIMIT, Refusal};
 
 // An answer, and the builder after it.
-#[derive(Clone, Copy)]
+// Stays: a struct of both and no Result of one, since the contract says what the builder is after a refusal too.
+#[derive(Clone, Copy, Debug, PartialEq, Eq)]
 pub struct Built {
     pub verdict: Result<(), Refusal>,
     pub builder: Builder,

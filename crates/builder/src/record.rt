@@ -5,7 +5,8 @@ ghost use Rattle.builder.specs.Builder.{empty as empty_builder};
 use board::LIMIT;
 
 // n discs; their position, unused bytes 0; the moves that gather them on each peg.
-#[derive(Clone, Copy)]
+// Stays: an array with n beside it, as the definitions of specs/Builder have it: a builder that is not sound is a value too.
+#[derive(Clone, Copy, Debug, PartialEq, Eq)]
 pub struct Builder {
     pub n: usize,
     pub position: [u8; LIMIT],

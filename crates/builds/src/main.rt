@@ -3,7 +3,7 @@
 
 mod damage;
 mod edges;
-mod same;
+mod gathers;
 mod say;
 mod sixty;
 mod steps;

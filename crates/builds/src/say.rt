@@ -1,5 +1,5 @@
 // A line for each change to a builder.
-use crate::same::{as_gather, same_builder};
+use crate::gathers::as_gather;
 use builder::{Builder, Built};
 use show::{Peg, held};
 use std::io;
@@ -16,7 +16,7 @@ pub fn builder(rt: &impl Print, b: &Builder) -> io::Result<()> {
 fn change(rt: &impl Print, before: Builder, built: Built) -> io::Result<Builder> {
     let after = built.builder;
     show::verdict(rt, built.verdict)?;
-    if same_builder(&before, &after) {
+    if after == before {
         println!(rt; ", unchanged")?;
         return Ok(after);
     }

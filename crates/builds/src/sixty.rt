@@ -1,5 +1,5 @@
 // Towers of 60 discs: after each disc added and after each removed the lengths are compared with Gather's.
-use crate::same::as_gather;
+use crate::gathers::as_gather;
 use crate::say;
 use builder::{Builder, Built, add, empty, remove};
 use std::io;

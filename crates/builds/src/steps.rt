@@ -1,5 +1,4 @@
 // A tower built by hand: discs slid under it and taken out again, with refused changes in between.
-use crate::same::same_builder;
 use crate::say;
 use builder::{Builder, empty};
 use std::io;
@@ -11,8 +10,7 @@ fn built(rt: &impl Print) -> io::Result<Builder> {
     let two = say::add(rt, refused, 1)?;
     let three = say::add(rt, two, 2)?;
     let back = say::remove(rt, three)?;
-    let same = same_builder(&back, &two);
-    let which = if same { "the same" } else { "another" };
+    let which = if back == two { "the same" } else { "another" };
     println!(rt; "a disc added and removed: {which} builder")?;
     say::add(rt, back, 1)
 }

@@ -1,15 +1,16 @@
 -- The two routes of a tie differ in their first move.
-use Prim.Native.Nat.{ℕ, zero, suc, ◌≤◌, ◌<◌}
+use Prim.Native.Nat.{ℕ, zero, suc, ◌<◌}
 use mathlib.Core.Bool.{true, false}
 use mathlib.Core.List.{List, [], ◌∷◌, map}
 use mathlib.Core.Logic.{◌≢◌, inl, inr}
-use mathlib.Core.Path.{◌≡◌, ◌∙◌, sym, ap}
+use mathlib.Core.Path.{◌≡◌, ◌∙◌, refl, sym, ap}
 use native.Mathlib.Decide.{ℕ_discrete, dec_lt}
 use native.Mathlib.Omega.{arith}
 use borrow.Author.Tests.{eq-eqb, ne_eqb}
 use lib.Dec.{eqb}
 use lib.ListN.{length, get_or, drop}
 use lib.Seq.{drop-cons}
+use Rattle.std.specs.List.{starts_with}
 use Rattle.board.specs.Fewest.{same}
 use Rattle.board.specs.Move.{Move, top}
 use Rattle.board.specs.Peg.{third}
@@ -88,6 +89,27 @@ routes_part p q same hp hq two =
     (firsts_apart (peg p) (formed_pegs p hp) k z (peg q k) h.third h.second (λ f. h.second_third (sym f))
     (carry k (peg p k) (peg q k)) (carry k (peg p k) z) (omega arith) (omega arith) (λ f. h.second_third (ap (λ (d : DiscMove). d.to) f)))
 
+-- A list begins with its first two numbers, and with no other two.
+begins_same : (a b : ℕ) (l : List ℕ) → starts_with eqb (a ∷ b ∷ l) (a ∷ b ∷ []) ≡ true
+begins_same a b l = rw (eq-eqb a a refl, eq-eqb b b refl)
+
+begins_other : (a b x y : ℕ) (l : List ℕ) → (x ≡ a → y ≡ b → ⊥) → starts_with eqb (a ∷ b ∷ l) (x ∷ y ∷ []) ≡ false
+begins_other a b x y l n =
+    elim (ℕ_discrete x a) [
+      | yes e ↦ rw (eq-eqb x a e, ne_eqb y b (n e))
+      | no o ↦ rw (ne_eqb x a o)
+    ]
+
+-- Moves with the same letters are the same.
+pegs_same : (m k : DiscMove) → letter m.from ≡ letter k.from → letter m.to ≡ letter k.to → plain m ≡ plain k
+pegs_same m k e f =
+    let from : m.from ≡ k.from = omega (arith, e) in
+    let to : m.to ≡ k.to = omega (arith, f) in
+    λ i. record { from = from i; to = to i }
+
+letters_same : (m k : DiscMove) {xs ys : List ℕ} → (letter m.from ∷ letter m.to ∷ xs) ≡ (letter k.from ∷ letter k.to ∷ ys) → plain m ≡ plain k
+letters_same m k e = pegs_same m k (ap (λ (l : List ℕ). get_or l 0 0) e) (ap (λ (l : List ℕ). get_or l 1 0) e)
+
 module _ (t : List ℕ) (accepted : task_check t ≡ pass) (two : count_of t ≡ 2) where
   -- Both routes of a tie are there.
   routed : (r : ℕ) → r < 2 → Routed t r
@@ -131,39 +153,24 @@ module _ (t : List ℕ) (accepted : task_check t ≡ pass) (two : count_of t ≡
       let head = drop-cons (task_route t r) 0 (record { disc = 0; from = 0; to = 0 }) (omega (arith, route_length t r (routed r l), tie_moves)) in
       let pegs = rw head at (route_pegs t r (routed r l)) in (pegs.0, pegs.1)
 
-  -- Bytes with another first letter are not the letters of route 0.
-  other_first : (l : List ℕ) → get_or l 0 0 ≢ letter (move_at (task_route t 0) 0).from → same l (letters (task_route t 0)) ≡ false
-  other_first l n =
-      same_apart l (letters (task_route t 0)) (λ e. n (ap (λ (k : List ℕ). get_or k 0 0) (e ∙ tie_letters 0 (omega arith))))
-
-  module _ (l : List ℕ) (r : ℕ) (known : r < 2) (ours : l ≡ letters (task_route t r)) where
-    -- The first two letters are those of the first move.
-    first_letter : get_or l 0 0 ≡ letter (move_at (task_route t r) 0).from
-    first_letter = ap (λ (k : List ℕ). get_or k 0 0) (ours ∙ tie_letters r known)
-
-    second_letter : get_or l 1 0 ≡ letter (move_at (task_route t r) 0).to
-    second_letter = ap (λ (k : List ℕ). get_or k 1 0) (ours ∙ tie_letters r known)
-
-    -- There are two letters.
-    two_letters : 2 ≤ length l
-    two_letters = rw (ours, tie_letters r known) (omega arith)
-
-    -- With the same first letter, the second tells.
-    same_first : get_or l 0 0 ≡ letter (move_at (task_route t 0) 0).from
-        → eqb (get_or l 1 0) (letter (move_at (task_route t 0) 0).to) ≡ same l (letters (task_route t 0))
-    same_first e =
-        elim (ℕ_discrete r 0) [
-          | yes z ↦
-              let is : l ≡ letters (task_route t 0) = rw z at ours in
-              let second : get_or l 1 0 ≡ letter (move_at (task_route t 0) 0).to = ap (λ (k : List ℕ). get_or k 1 0) (is ∙ tie_letters 0 (omega arith)) in
-              eq-eqb _ _ second ∙ sym (rw is (same_refl (letters (task_route t 0))))
-          | no n ↦
-              let from : (move_at (task_route t 0) 0).from ≡ (move_at (task_route t r) 0).from = omega (arith, first_letter) in
-              let apart : get_or l 1 0 ≢ letter (move_at (task_route t 0) 0).to =
-              λ f. let to : (move_at (task_route t 0) 0).to ≡ (move_at (task_route t r) 0).to = omega (arith, second_letter) in
-              tie_apart r known n (λ i. record { from = from i; to = to i }) in
-              ne_eqb _ _ apart ∙ sym (same_apart l (letters (task_route t 0)) (λ f. apart (ap (λ (k : List ℕ). get_or k 1 0) (f ∙ tie_letters 0 (omega arith)))))
-        ]
+  -- So letters of one of the two begin with the first move of route 0 exactly where they are those of route 0.
+  begins : (l : List ℕ) (r : ℕ) → r < 2 → l ≡ letters (task_route t r) →
+      let first = move_at (task_route t 0) 0 in
+      starts_with eqb l (letter first.from ∷ letter first.to ∷ []) ≡ same l (letters (task_route t 0))
+  begins l r known ours =
+      let first = move_at (task_route t 0) 0 in
+      let mine = move_at (task_route t r) 0 in
+      elim (ℕ_discrete r 0) [
+        | yes z ↦
+            let is : l ≡ letters (task_route t 0) = rw z at ours in
+            rw (is, same_refl (letters (task_route t 0)), tie_letters 0 (omega arith))
+            (begins_same (letter first.from) (letter first.to) (letters (drop 1 (task_route t 0))))
+        | no n ↦
+            let apart : l ≢ letters (task_route t 0) =
+            λ e. tie_apart r known n (letters_same first mine (sym (tie_letters 0 (omega arith)) ∙ sym e ∙ ours ∙ tie_letters r known)) in
+            rw (same_apart l (letters (task_route t 0)) apart, ours, tie_letters r known)
+            (begins_other _ _ _ _ (letters (drop 1 (task_route t r))) (λ from to. tie_apart r known n (pegs_same first mine from to)))
+      ]
 
 -- Of one of our routes of a task that has one only, the letters are those of route 0.
 pub only_first : (t l : List ℕ) → OneOfOurs t l → count_of t ≡ 1 → same l (letters (task_route t 0)) ≡ true
@@ -184,25 +191,22 @@ first_answered t accepted tie =
 pub first_there : (t : List ℕ) → task_check t ≡ pass → count_of t ≢ 1 → {k : ℕ} → refused k ≡ move_answer t 0 0 → ⊥
 first_there t accepted tie e = refused_answer (e ∙ first_answered t accepted tie)
 
--- What the first move of route 0 tells of letters: there are two, and they tell whether they are those of route 0.
+-- What the first move of route 0 tells of letters: they begin with it exactly where they are those of route 0.
 pub record Told (t l : List ℕ) (m : DiscMove) : Type 0 where
-  pub room : 2 ≤ length l
   pub from_peg : m.from < 3
   pub to_peg : m.to < 3
-  pub other : get_or l 0 0 ≢ letter m.from → same l (letters (task_route t 0)) ≡ false
-  pub second : get_or l 0 0 ≡ letter m.from → eqb (get_or l 1 0) (letter m.to) ≡ same l (letters (task_route t 0))
+  pub begins : starts_with eqb l (letter m.from ∷ letter m.to ∷ []) ≡ same l (letters (task_route t 0))
 
-pub told : (t l : List ℕ) → OneOfOurs t l → count_of t ≢ 1 → {m : DiscMove} → answer m ≡ move_answer t 0 0 → Told t l m
-told t l ours tie {m} e =
-    let two = two_routes t tie in
+pub told : (t l : List ℕ) → OneOfOurs t l → {n : ℕ} → n ≡ count_of t → n ≢ 1 → {m : DiscMove} → answer m ≡ move_answer t 0 0 → Told t l m
+told t l ours count tie {m} e =
+    let several : count_of t ≢ 1 = λ one. tie (count ∙ one) in
+    let two = two_routes t several in
     let known : ours.route < 2 = omega (arith, ours.there) in
-    let is : move_at (task_route t 0) 0 ≡ m = answer_same (sym (first_answered t ours.accepted tie) ∙ sym e) in
+    let is : move_at (task_route t 0) 0 ≡ m = answer_same (sym (first_answered t ours.accepted several) ∙ sym e) in
     let (from_peg, to_peg) = tie_pegs t ours.accepted two 0 (omega arith) in
     rw (← is)
     (record {
-      room = two_letters t ours.accepted two l ours.route known ours.same;
       from_peg = from_peg;
       to_peg = to_peg;
-      other = other_first t ours.accepted two l;
-      second = same_first t ours.accepted two l ours.route known ours.same;
+      begins = begins t ours.accepted two l ours.route known ours.same;
     })

@@ -1,5 +1,5 @@
 -- Laws of letter pairs, and of the moves that they read as.
-use Prim.Native.Nat.{ℕ, zero, suc, ◌+◌, ◌*◌, ◌-◌, ◌/◌, ◌%◌, ◌≤◌, ◌<◌}
+use Prim.Native.Nat.{ℕ, zero, suc, ◌*◌, ◌-◌, ◌/◌, ◌%◌, ◌≤◌, ◌<◌}
 use mathlib.Core.Bool.{Bool, true, false, not, ◌&&◌, ◌||◌, and-eq-true_iff, true≢false, false≢true}
 use mathlib.Core.List.{List, [], ◌∷◌, map}
 use mathlib.Core.Logic.{◌≢◌, inl, inr, ◌↔◌}
@@ -9,7 +9,6 @@ use native.Mathlib.Omega.{arith}
 use borrow.Author.Tests.{eqb-true, eq-eqb, ne_eqb, ltb-true, lt-ltb, not-true}
 use lib.Dec.{eqb, ltb}
 use lib.ListN.{length, get_or, take, drop, drop_of_length-le}
-use lib.Seq.{drop-cons}
 use Rattle.board.specs.Move.{Move, Leads, next}
 use Rattle.board.proofs.Obeys.{either}
 use Rattle.route.specs.Answer.{letter, letters}
@@ -17,7 +16,7 @@ use Rattle.route.specs.Ours.{read_peg, read_moves}
 use Rattle.route.specs.Route.{plain}
 use Rattle.route.specs.declared.answer.DiscMove.{DiscMove}
 use Rattle.checker.specs.Faults.{NoLetter, Unpaired}
-use Rattle.checker.specs.Inner.Walk.{letter_of, move_in}
+use Rattle.checker.specs.Inner.Walk.{letter_of}
 use Rattle.checker.specs.Letters.{is_letter, all_letters}
 
 -- A byte is the letter of the peg that it reads as, or no letter.
@@ -43,11 +42,13 @@ reads c =
 pub letter_peg : (c : ℕ) → read_peg c < 3 → c ≡ letter (read_peg c)
 letter_peg c h = elim (reads c) [ is_letter_lem l e ↦ e | is_none e n ↦ absurd (omega arith) ]
 
--- A letter is not below A, and what is above A is below 3.
-pub letter_place : (c : ℕ) → is_letter c ≡ true → (65 ≤ c) × (c - 65 < 3)
-letter_place c e =
-    let h = ltb-true (read_peg c) 3 e in
-    (omega (arith, letter_peg c h), omega (arith, letter_peg c h))
+-- A letter is not below A.
+pub letter_above : (c : ℕ) → is_letter c ≡ true → 65 ≤ c
+letter_above c e = omega (arith, letter_peg c (ltb-true (read_peg c) 3 e))
+
+-- And what is above A is below 3.
+pub letter_place : (c : ℕ) → is_letter c ≡ true → c - 65 < 3
+letter_place c e = let h = ltb-true (read_peg c) 3 e in omega (arith, letter_peg c h)
 
 -- A byte is the letter of a peg exactly where it reads as that peg.
 pub letter_is : (c b : ℕ) → b < 3 → (c ≡ letter b) ↔ (read_peg c ≡ b)
@@ -74,19 +75,6 @@ unfolding letter_of
 letter_second [] some = absurd (omega arith)
 letter_second (b ∷ []) some = absurd (omega arith)
 letter_second (b ∷ c ∷ p) some = refl
-
--- The test from byte i on is the test of that byte and of those after it.
-letters_from_lem : (l : List ℕ) (i : ℕ) → i < length l → all_letters (drop i l) ≡ (is_letter (get_or l i 0) && all_letters (drop (suc i) l))
-unfolding all_letters
-letters_from_lem l i h = ap all_letters (drop-cons l i 0 h)
-
--- A letter at i leaves the test to the bytes after it.
-pub letters_past : (l : List ℕ) (i : ℕ) → i < length l → is_letter (get_or l i 0) ≡ true → all_letters (drop (suc i) l) ≡ all_letters (drop i l)
-letters_past l i h is = rw (letters_from_lem l i h, is)
-
--- Another byte at i fails it.
-pub letters_fail : (l : List ℕ) (i : ℕ) → i < length l → is_letter (get_or l i 0) ≡ false → all_letters (drop i l) ≡ false
-letters_fail l i h is = rw (letters_from_lem l i h, is)
 
 -- Where no byte is left it passes.
 pub letters_end : (l : List ℕ) (i : ℕ) → length l ≤ i → all_letters (drop i l) ≡ true
@@ -132,18 +120,6 @@ unfolding read_moves
 moves_length [] = omega arith
 moves_length (a ∷ []) = omega arith
 moves_length (a ∷ b ∷ l) = omega (arith, moves_length l)
-
--- Move i is that of letters 2 i and 2 i + 1.
-pub moves_at : (l : List ℕ) (i : ℕ) → i < length l / 2
-    → move_in (read_moves l) i ≡ record { from = read_peg (get_or l (2 * i) 0); to = read_peg (get_or l (2 * i + 1) 0) }
-unfolding read_moves
-moves_at [] i h = absurd (omega arith)
-moves_at (a ∷ []) i h = absurd (omega arith)
-moves_at (a ∷ b ∷ l) zero h = refl
-moves_at (a ∷ b ∷ l) (suc i) h =
-    let two : 2 * suc i ≡ suc (suc (2 * i)) = omega arith in
-    let three : 2 * suc i + 1 ≡ suc (suc (2 * i + 1)) = omega arith in
-    rw (three, two) (moves_at l i (omega arith))
 
 -- Letter pairs that read as the moves of a route are the letters of that route.
 pub read_back : (l : List ℕ) (ds : List DiscMove) → length l % 2 ≢ 1 → all_letters l ≡ true → read_moves l ≡ map plain ds → l ≡ letters ds

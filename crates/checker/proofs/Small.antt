@@ -1,26 +1,26 @@
 -- Laws of a position by its smallest disc: which moves are legal, and what they leave.
-use Prim.Native.Nat.{ℕ, ◌+◌, ◌*◌, ◌-◌, ◌/◌, ◌≤◌, ◌<◌}
+use Prim.Native.Nat.{ℕ, zero, suc, ◌-◌, ◌/◌, ◌≤◌, ◌<◌}
 use mathlib.Core.Bool.{Bool, true, not, ◌&&◌, and-eq-true_iff}
 use mathlib.Core.List.{List, [], ◌∷◌}
 use mathlib.Core.Logic.{◌≢◌, ◌↔◌}
-use mathlib.Core.Path.{◌≡◌, ◌∙◌, sym, ap}
+use mathlib.Core.Path.{◌≡◌, ◌∙◌, refl, sym, ap}
 use native.Mathlib.Decide.{ℕ_discrete}
 use native.Mathlib.Omega.{arith}
 use borrow.Author.Tests.{eqb-false, eq-eqb, ne_eqb, ltb-true, lt-ltb, not-true}
 use lib.Dec.{eqb, ltb}
 use lib.ListN.{length, get_or, drop}
+use Rattle.std.specs.Simd.{first_chunks}
 use Rattle.board.specs.Move.{Move, Legal, top, moved}
 use Rattle.board.specs.Position.{WellFormed}
 use Rattle.board.proofs.Formed.{formed_head, formed_tail}
 use Rattle.board.proofs.Top.{top_here, top_there, top_le}
 use Rattle.route.specs.Answer.{letter}
 use Rattle.route.specs.Ours.{read_peg, read_moves}
-use Rattle.run.specs.Inner.Pegs.{Holds}
-use Rattle.run.specs.Inner.Stepper.{disc_on}
+use Rattle.run.specs.Inner.Pegs.{Holds, disc_on}
 use Rattle.run.specs.declared.pegs.Pegs.{Pegs}
 use Rattle.checker.specs.Inner.Walk.{letter_of, may_apart, may_carry, may_move, move_in}
 use Rattle.checker.specs.Letters.{is_letter}
-use Rattle.checker.proofs.Pairs.{letter_peg, letter_is, moves_at}
+use Rattle.checker.proofs.Pairs.{letter_peg, letter_is}
 
 -- A move between pegs is legal where the topmost disc of the one is smaller than that of the other.
 tops_legal : (p : List ℕ) (m : Move) → m.from < 3 → m.to < 3 → top p m.from < top p m.to → Legal p m
@@ -73,20 +73,19 @@ tops_held a p i j h hi hj = (
 abbrev pub pair_move : ℕ → ℕ → Move
 pair_move x y = record { from = read_peg x; to = read_peg y }
 
--- Bytes 2 i and 2 i + 1 of a list are its move i.
-pub pair_entry : (l : List ℕ) (i x y : ℕ) → i < length l / 2 → x ≡ get_or l (2 * i) 0 → y ≡ get_or l (2 * i + 1) 0 → pair_move x y ≡ move_in (read_moves l) i
-pair_entry l i x y h first second = (λ k. pair_move (first k) (second k)) ∙ sym (moves_at l i h)
+-- Pair i of a list is its move i.
+pub pair_entry : (l : List ℕ) (k i : ℕ) → i < k → k ≤ length l / 2
+    → pair_move (get_or (get_or (first_chunks 2 k l) i []) 0 0) (get_or (get_or (first_chunks 2 k l) i []) 1 0) ≡ move_in (read_moves l) i
+unfolding read_moves
+pair_entry [] k i h few = absurd (omega arith)
+pair_entry (a ∷ []) k i h few = absurd (omega arith)
+pair_entry (a ∷ b ∷ l) zero i h few = absurd (omega arith)
+pair_entry (a ∷ b ∷ l) (suc k) zero h few = refl
+pair_entry (a ∷ b ∷ l) (suc k) (suc i) h few = pair_entry l k i (omega arith) (omega arith)
 
 -- The place of a letter's peg among the three is what is above A.
 pub place_peg : (x : ℕ) → read_peg x < 3 → x - 65 ≡ read_peg x
 place_peg x h = omega (arith, letter_peg x h)
-
--- The bytes of a legal move are letters.
-pub legal_letters : (p : List ℕ) (x y : ℕ) → Legal p (pair_move x y) → (65 ≤ x) × (65 ≤ y) × (x - 65 < 3) × (y - 65 < 3)
-legal_letters p x y legal =
-    let from = legal.from_peg in
-    let to = legal.to_peg in
-    (omega (arith, letter_peg x from), omega (arith, letter_peg y to), rw (place_peg x from) from, rw (place_peg y to) to)
 
 -- Where the arrays hold the discs, the test of the topmost ones finds the legal moves.
 carry_exactly : (a : Pegs) (p : List ℕ) (x y : ℕ) → Holds a p → read_peg y < 3 → (may_carry a.top x y ≡ true) ↔ Legal p (pair_move x y)

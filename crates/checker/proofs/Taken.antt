@@ -1,6 +1,6 @@
 -- Laws of discs taken off one by one, the smallest first: they can be taken off the pegs of a position exactly where that is the position
 -- that the arrays hold.
-use Prim.Native.Nat.{ℕ, suc, ◌+◌, ◌≤◌, ◌<◌, min}
+use Prim.Native.Nat.{ℕ, suc, ◌+◌, ◌-◌, ◌≤◌, ◌<◌, min}
 use mathlib.Core.Bool.{true, false, ◌&&◌}
 use mathlib.Core.List.{List, [], ◌∷◌}
 use mathlib.Core.Logic.{◌≢◌}
@@ -9,19 +9,21 @@ use native.Mathlib.Decide.{ℕ_discrete}
 use native.Mathlib.Omega.{arith}
 use borrow.Author.Tests.{eq-eqb, ne_eqb}
 use lib.Dec.{eqb}
-use lib.ListN.{length, get_or, drop, set, length-drop, drop_of_length-le}
+use lib.ListN.{length, get_or, take, drop, set, length-drop, drop_of_length-le}
 use lib.Seq.{drop-cons, get_or-set_same, get_or-set_other}
 use Rattle.board.specs.Fewest.{same}
 use Rattle.board.specs.Move.{top}
 use Rattle.board.specs.Position.{peg, WellFormed}
+use Rattle.board.specs.Task.{limit}
 use Rattle.board.proofs.Formed.{formed_head, formed_tail, formed_drop}
 use Rattle.board.proofs.Search.{same_apart}
 use Rattle.board.proofs.Top.{top_here, top_there}
+use Rattle.plan.proofs.Parts.{part_to_end}
 use Rattle.run.specs.Inner.Pegs.{beneath, Holds}
-use Rattle.run.specs.declared.pegs.Pegs.{Pegs}
 use Rattle.run.proofs.Held.{inside}
 use Rattle.checker.specs.Inner.Stacks.{taken_off}
 use Rattle.checker.specs.Inner.Walk.{letter_of, Kept}
+use Rattle.checker.specs.declared.discs.Discs.{Discs}
 
 -- The test from disc d + 1 on is that of its peg, and of the discs after it.
 taken_from : (t b q : List ℕ) (d : ℕ) → d < length q
@@ -88,11 +90,19 @@ taken_same (i ∷ q) (j ∷ p) t b d size formed h =
           rw (ne_eqb (get_or t i 0) (suc d) other, ne_eqb j i n)
     ]
 
--- The discs after the first two are those after as many as are known by their letters.
-pub drop_apart : (p : List ℕ) → drop (min (length p) 2) p ≡ drop 2 p
+-- The discs after as many as are known by their letters are those after the first two.
+drop_apart : (p : List ℕ) → drop (min (length p) 2) p ≡ drop 2 p
 drop_apart [] = refl
 drop_apart (b ∷ []) = refl
 drop_apart (b ∷ c ∷ p) = let two : min (length (b ∷ c ∷ p)) 2 ≡ 2 = omega arith in rw two
+
+pub larger_part : (p : List ℕ) {k : ℕ} → k ≡ min (length p) 2 → take (length p - k) (drop k p) ≡ drop 2 p
+larger_part p {k} e = rw (part_to_end, e) (drop_apart p)
+
+-- They are well formed, and no more than all.
+pub larger_fits : (p : List ℕ) {k : ℕ} → k ≡ min (length p) 2 → length p ≤ limit → WellFormed p
+    → (length (take (length p - k) (drop k p)) ≤ limit) × WellFormed (take (length p - k) (drop k p))
+larger_fits p e within formed = rw (larger_part p e) (omega (arith, length-drop 2 p), formed_drop 2 p formed)
 
 -- Discs with the first on the same peg are the same where those after it are.
 same_after : (p q : List ℕ) → length p ≡ length q → letter_of p ≡ letter_of q → same p q ≡ same (drop 1 p) (drop 1 q)
@@ -102,31 +112,31 @@ same_after [] (i ∷ q) size e = absurd (omega arith)
 same_after (j ∷ p) [] size e = absurd (omega arith)
 same_after (j ∷ p) (i ∷ q) size e = let is : j ≡ i = omega arith in rw (eq-eqb j i is)
 
-module _ {small second : ℕ} {a : Pegs} (p q : List ℕ) (k : Kept small second a p) where
+module _ {k : Discs} (p q : List ℕ) (kept : Kept k p) where
   -- Disc 1 is on another peg.
-  pub kept_apart : small ≢ peg q 0 + 65 → same p q ≡ false
-  kept_apart n = same_apart p q (λ e. n (omega (arith, k.first, ap (λ (l : List ℕ). peg l 0) e)))
+  pub kept_apart : k.small ≢ peg q 0 + 65 → same p q ≡ false
+  kept_apart n = same_apart p q (λ e. n (omega (arith, kept.first, ap (λ (l : List ℕ). peg l 0) e)))
 
   -- Disc 2 is.
-  pub kept_second : second ≢ letter_of (drop 1 q) → same p q ≡ false
-  kept_second n = same_apart p q (λ e. n (sym k.next ∙ ap (λ (l : List ℕ). letter_of (drop 1 l)) e))
+  pub kept_second : k.second ≢ letter_of (drop 1 q) → same p q ≡ false
+  kept_second n = same_apart p q (λ e. n (sym kept.next ∙ ap (λ (l : List ℕ). letter_of (drop 1 l)) e))
 
   -- Both are on their pegs, and the larger discs can be taken off.
-  pub kept_taken : length p ≡ length q → 0 < length q → WellFormed q → small ≡ peg q 0 + 65 → second ≡ letter_of (drop 1 q)
-      → taken_off a.top a.beneath 0 (drop 2 q) ≡ same p q
-  kept_taken size some formed e f = by p q size some formed (omega (arith, k.first)) (k.next ∙ f) k.larger
+  pub kept_taken : length p ≡ length q → 0 < length q → WellFormed q → k.small ≡ peg q 0 + 65 → k.second ≡ letter_of (drop 1 q)
+      → taken_off k.larger.top k.larger.beneath 0 (drop 2 q) ≡ same p q
+  kept_taken size some formed e f = by p q size some formed (omega (arith, kept.first)) (kept.next ∙ f) kept.larger
     where
       by : (p q : List ℕ) → length p ≡ length q → 0 < length q → WellFormed q → peg p 0 ≡ peg q 0 → letter_of (drop 1 p) ≡ letter_of (drop 1 q)
-          → Holds a (drop 2 p) → taken_off a.top a.beneath 0 (drop 2 q) ≡ same p q
+          → Holds k.larger (drop 2 p) → taken_off k.larger.top k.larger.beneath 0 (drop 2 q) ≡ same p q
       by p [] size some formed e f h = absurd (omega arith)
       by [] (i ∷ q) size some formed e f h = absurd (omega arith)
       by (j ∷ p) (i ∷ q) size some formed e f h =
-          let held : HoldsAfter a.top a.beneath (drop 1 p) 0 =
+          let held : HoldsAfter k.larger.top k.larger.beneath (drop 1 p) 0 =
           record {
             tops = λ x l. omega (arith, h.tops x l);
             beneaths = λ x l. let same_place : 0 + x ≡ x = omega arith in rw same_place (omega (arith, h.beneaths x l));
           } in
           let sizes : length (drop 1 p) ≡ length (drop 1 q) = omega (arith, length-drop 1 p, length-drop 1 q) in
-          taken_same (drop 1 q) (drop 1 p) a.top a.beneath 0 sizes (formed_drop 1 q (formed_tail i q formed)) held
+          taken_same (drop 1 q) (drop 1 p) k.larger.top k.larger.beneath 0 sizes (formed_drop 1 q (formed_tail i q formed)) held
           ∙ sym (same_after p q (omega arith) f)
           ∙ sym (unfold same in rw (eq-eqb j i e))

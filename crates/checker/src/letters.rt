@@ -11,25 +11,16 @@ pub fn wide(byte: u8) -> usize
 }
 
 // Whether a byte is A, B or C.
+#[tactic(auto, unfolding(route::specs::Ours::read_peg))]
 pub fn is_letter(byte: usize) -> bool
     ensures { result ≡ is_letter byte }
 {
-    if byte < 65 {
-        return false;
-    }
-    byte <= 67
+    matches!(byte, 65..=67)
 }
 
 // Whether all bytes are.
 pub fn only_letters(bytes: &[u8]) -> bool
     ensures { result ≡ all_letters bytes.now }
 {
-    let mut i = 0;
-    while i < bytes.len() {
-        if !is_letter(wide(bytes[i])) {
-            return false;
-        }
-        i += 1;
-    }
-    true
+    bytes.iter().all(|byte| is_letter(wide(*byte)))
 }

@@ -1,9 +1,10 @@
 // The checker: whether letter pairs are a shortest route of a task, and which of ours.
 #![tactic(auto)]
 
+mod discs;
 mod letters;
 mod numbering;
-mod stacks;
+mod taking;
 mod verdict;
 mod walking;
 

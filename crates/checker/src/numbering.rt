@@ -14,7 +14,7 @@ pub fn is_first(task: &[u8], routes: u64, letters: &[u8]) -> bool
         return true;
     }
     match route::move_at(task, 0, 0) {
-        Err(_) => false,
-        Ok((first, _)) => letters[0] == 65 + first.from && letters[1] == 65 + first.to,
+        Err(_) => unreachable!(),
+        Ok((first, _)) => letters.starts_with(&[b'A' + first.from, b'A' + first.to]),
     }
 }

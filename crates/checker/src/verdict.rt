@@ -5,7 +5,7 @@ ghost use Rattle.board.specs.Refusal.{reply_of};
 ghost use Rattle.checker.specs.Answer.{letters_check};
 
 use crate::letters::only_letters;
-use crate::walking::walk;
+use crate::walking::{Walked, walk};
 use board::Refusal;
 use plan::Task;
 
@@ -18,19 +18,15 @@ pub fn letters_verdict(task: &Task, shortest: u64, letters: &[u8]) -> Result<(),
     if letters.len() % 2 == 1 {
         return Err(Refusal::NotLetterPairs);
     }
-    let walked = walk(task, letters);
-    let made = walked.made;
+    let Walked { made, there } = walk(task, letters);
     if made < letters.len() / 2 {
         let read = 2 * made;
         if only_letters(&letters[read..]) {
-            return Err(Refusal::IllegalMove);
+            Err(Refusal::IllegalMove)
+        } else {
+            Err(Refusal::NotLetterPairs)
         }
-        return Err(Refusal::NotLetterPairs);
-    }
-    if shortest != made as u64 {
-        return Err(Refusal::NotShortest);
-    }
-    if walked.there {
+    } else if shortest == made as u64 && there {
         Ok(())
     } else {
         Err(Refusal::NotShortest)

@@ -6,18 +6,17 @@ use mathlib.Core.Path.{◌≡◌, refl, ap, sym, ◌∙◌}
 use native.Mathlib.Decide.{ℕ_discrete}
 use native.Mathlib.Nat.{add-zero, add-suc}
 use native.Mathlib.Omega.{arith}
-use lib.ListN.{length, drop, set, length-append}
+use lib.ListN.{length, drop, length-append}
 use lib.Seq.{sets}
 use Rattle.board.specs.Position.{peg}
 use Rattle.board.proofs.Lists.{stored}
 use Rattle.route.specs.Answer.{letter}
 use Rattle.run.specs.Inner.Gatherer.{Gatherer, gatherer, gather_move, gather_next, gathers_from, gather_letters, Gathers}
-use Rattle.run.specs.Inner.Pegs.{arrays, shifted}
-use Rattle.run.specs.Inner.Stepper.{small_turn, other_turn, gather_turn, Advance, advance, Safe}
+use Rattle.run.specs.Inner.Pegs.{shifted}
+use Rattle.run.specs.Inner.Stepper.{Turned, small_turn, other_turn, gather_turn, Advance, advance, Safe}
 use Rattle.run.specs.Inner.Written.{steps_from, step_letters}
 use Rattle.run.specs.declared.pegs.Pegs.{Pegs}
 use Rattle.run.specs.declared.stepper.Leg.{Leg}
-use Rattle.run.specs.declared.stepper.Step.{Step}
 use Rattle.run.specs.declared.stepper.Stepper.{Stepper}
 use Rattle.run.specs.declared.stepper.Turn.{Turn}
 use Rattle.run.proofs.Letters.{letters_more, letters_length, sets_append}
@@ -108,19 +107,18 @@ unfolding gather_letters
 gathered_length g zero = refl
 gathered_length g (suc i) = rw length-append (omega (arith, gathered_length g i))
 
-module _ (g : Gatherer) (i : ℕ) {t b : List ℕ} {u : Turn} (here : gatherer t b u ≡ gathers_from g i) {r : Step} (is : r ≡ gather_turn t u) where
-  -- A move of a gathering, made in the arrays, is the gatherer's next.
-  pub gather_next_lem : {t' b' : List ℕ} → arrays t' b' ≡ shifted (arrays t b) r.from r.to → gatherer t' b' r.turn ≡ gathers_from g (suc i)
+module _ (g : Gatherer) (i : ℕ) {a : Pegs} {u : Turn} (here : gatherer a u ≡ gathers_from g i) {r : Turned} (is : r ≡ gather_turn a.top u) where
+  -- A move of a gathering, made in the pegs, is the gatherer's next.
+  pub gather_next_lem : {a' : Pegs} → a' ≡ shifted a r.from r.to → gatherer a' r.turn ≡ gathers_from g (suc i)
   unfolding gathers_from
   gather_next_lem held =
-      ap (λ (a : Pegs). gatherer a.top a.beneath r.turn) held
-      ∙ ap (λ (x : Step). gather_next (gatherer t b u) x) is
+      ap (λ (a : Pegs). gatherer a r.turn) held
+      ∙ ap (λ (x : Turned). gather_next (gatherer a u) x) is
       ∙ ap (λ (h : Gatherer). gather_next h (gather_move h)) here
 
   -- Its letters, stored after those before, are stored with them.
   pub gather_go : (at : ℕ) (o : List ℕ)
-      → set (set (sets o (2 * at) (gather_letters g i)) (2 * (at + i)) (letter r.from)) (suc (2 * (at + i))) (letter r.to)
-      ≡ sets o (2 * at) (gather_letters g (suc i))
+      → sets (sets o (2 * at) (gather_letters g i)) (2 * (at + i)) (letter r.from ∷ letter r.to ∷ []) ≡ sets o (2 * at) (gather_letters g (suc i))
   unfolding gather_letters
   gather_go at o =
       let next : r ≡ gather_move (gathers_from g i) = is ∙ ap (λ (h : Gatherer). gather_move h) here in

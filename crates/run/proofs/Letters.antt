@@ -46,8 +46,7 @@ sets_append l n (x ∷ xs) ys =
 
 -- The next move, m, is written.
 pub go : (s : Stepper) (q : ℕ → ℕ) (i : ℕ) (o : List ℕ) {m : Advance} → 2 * suc i ≤ length o → m ≡ advance (steps_from s q i) q
-    → set (set (step_letters s q i ++ drop (2 * i) o) (2 * i) (letter m.from)) (suc (2 * i)) (letter m.to)
-    ≡ step_letters s q (suc i) ++ drop (2 * suc i) o
+    → sets (step_letters s q i ++ drop (2 * i) o) (2 * i) (letter m.from ∷ letter m.to ∷ []) ≡ step_letters s q (suc i) ++ drop (2 * suc i) o
 go s q i o {m} h next =
     let two : 2 * suc i ≡ 2 * i + 2 = omega arith in
     rw (letters_more s q i, ← next, two)

@@ -3,31 +3,21 @@ use Prim.Native.Nat.{ℕ, zero, suc, ◌%◌, ◌≤◌, ◌<◌}
 use mathlib.Core.Bool.{Bool, true, false, cond}
 use mathlib.Core.Logic.{◌≢◌}
 use mathlib.Core.List.{List}
-use mathlib.Core.Path.{◌≡◌}
+use mathlib.Core.Path.{◌≡◌, ap}
 use native.Mathlib.Omega.{arith}
-use borrow.Author.Tests.{eq-eqb, ne_eqb, lt-ltb, le-ltb}
+use borrow.Author.Tests.{eq-eqb, ne_eqb}
 use lib.Dec.{eqb}
 use lib.ListN.{length}
-use Rattle.board.specs.Peg.{third}
 use Rattle.board.specs.Position.{peg}
+use Rattle.board.specs.Task.{limit}
+use Rattle.board.proofs.Formed.{formed_pegs}
 use Rattle.board.proofs.Pegs.{third_peg}
-use Rattle.run.specs.Inner.Pegs.{arrays, shifted}
-use Rattle.run.specs.Inner.Stepper.{disc_on, second, last, small_turn, other_from, other_to, other_turn, gather_turn, spread_leg, next_leg, leg_turn, Advance, leg_step, gather_step, advance, Carries, Safe}
+use Rattle.run.specs.Inner.Pegs.{Carries, shifted}
+use Rattle.run.specs.Inner.Stepper.{Turned, small_turn, other_turn, gather_turn, spread_leg, next_leg, leg_turn, Advance, leg_step, gather_step, advance, Safe}
+use Rattle.run.specs.declared.pegs.Pegs.{Pegs}
 use Rattle.run.specs.declared.stepper.Leg.{Leg}
 use Rattle.run.specs.declared.stepper.Turn.{Turn}
 use Rattle.run.specs.declared.stepper.Stepper.{Stepper}
-use Rattle.run.specs.declared.stepper.Step.{Step}
-
-module _ (t : List ℕ) (i : ℕ) where
-  -- Of the two pegs without disc 1 the first has the smaller topmost disc.
-  pub other_second : disc_on t (second i) < disc_on t (last i) → (other_from t i ≡ second i) × (other_to t i ≡ last i)
-  unfolding other_from other_to
-  other_second h = let yes = lt-ltb _ _ h in (rw yes, rw yes)
-
-  -- The other has it.
-  pub other_last : disc_on t (last i) ≤ disc_on t (second i) → (other_from t i ≡ last i) × (other_to t i ≡ second i)
-  unfolding other_from other_to
-  other_last h = let no = le-ltb _ _ h in (rw no, rw no)
 
 module _ (t : List ℕ) (u : Turn) where
   -- An odd number is left to gather.
@@ -39,28 +29,6 @@ module _ (t : List ℕ) (u : Turn) where
   pub gather_other : u.left % 2 ≢ 1 → gather_turn t u ≡ other_turn t u
   unfolding gather_turn
   gather_other h = rw (ne_eqb _ _ h)
-
-module _ (q : ℕ → ℕ) (k w : ℕ) where
-  -- A disc whose goal is the tower's peg has no leg.
-  pub spread_home : q k ≡ w → spread_leg q (suc k) w ≡ spread_leg q k w
-  unfolding spread_leg
-  spread_home h = rw (eq-eqb (q k) w h)
-
-  -- The largest disc whose goal is another peg has the first leg.
-  pub spread_away : q k ≢ w → spread_leg q (suc k) w ≡ record { disc = k; from = w; to = q k; again = false }
-  unfolding spread_leg
-  spread_away h = rw (ne_eqb (q k) w h)
-
-module _ (l : Leg) (q : ℕ → ℕ) where
-  -- The disc of a leg crosses again.
-  pub next_again : l.again ≡ true → next_leg l q ≡ record { disc = l.disc; from = l.to; to = third l.from l.to; again = false }
-  unfolding next_leg
-  next_again h = rw h
-
-  -- It does not.
-  pub next_spread : l.again ≡ false → next_leg l q ≡ spread_leg q l.disc (third l.from l.to)
-  unfolding next_leg
-  next_spread h = rw h
 
 -- A leg's disc is one of k + 1, and it goes between pegs.
 pub record LegWithin (k : ℕ) (l : Leg) : Type 0 where
@@ -84,7 +52,7 @@ module _ (q : ℕ → ℕ) (pegs : (d : ℕ) → q d < 3) where
       (record { disc = omega arith; from = h; to = pegs k })
 
   -- The leg after a leg is of the same discs.
-  pub next_within : (k : ℕ) (l : Leg) → LegWithin k l → LegWithin k (next_leg l q)
+  next_within : (k : ℕ) (l : Leg) → LegWithin k l → LegWithin k (next_leg l q)
   unfolding next_leg
   next_within k l w =
       let on = third_peg l.from l.to w.from in
@@ -105,21 +73,41 @@ module _ (s : Stepper) (q : ℕ → ℕ) where
 
 module _ (s : Stepper) (g : List ℕ) (may : Safe s g) where
   -- Where nothing is left to gather, the leg is of discs of the goal, and its peg has a disc to carry.
-  pub safe_leg : s.turn.left ≡ 0 → LegWithin (length g) s.leg × Carries s.pegs.top s.leg.from
+  safe_leg : s.turn.left ≡ 0 → LegWithin (length g) s.leg × Carries s.pegs.top s.leg.from
   unfolding leg_turn
   safe_leg h =
       let is = step_leg s (peg g) h in
       (record { disc = may.leg_disc h; from = rw is at may.from; to = rw is at may.to }, rw is at may.carries)
 
--- The stepper with the arrays t and b.
-abbrev pub standing : List ℕ → List ℕ → Turn → Leg → Stepper
-standing t b u l = record { pegs = arrays t b; turn = u; leg = l }
+-- What a stepper knows of a leg's own move: the leg and the next one are of discs of the goal, and the leg's peg has a disc to carry.
+pub record LegSafe (t : Stepper) (g : List ℕ) : Type 0 where
+  pub now : LegWithin (length g) t.leg
+  pub carries : Carries t.pegs.top t.leg.from
+  pub next : LegWithin (length g) (next_leg t.leg (peg g))
+  pub within : length g ≤ limit
 
--- What a step leaves, with the arrays t and b after it, in the leg l.
-abbrev pub stepped : Step → List ℕ → List ℕ → Leg → Advance
-stepped r t b l = record { from = r.from; to = r.to; stepper = standing t b r.turn l }
+-- Where nothing is left to gather, a stepper that can make its next move knows all that.
+pub leg_safe : {t x : Stepper} (g : List ℕ) → t ≡ x → Safe x g → t.turn.left ≡ 0 → LegSafe t g
+leg_safe {t} g here safe none =
+    let may : Safe t g = rw here safe in
+    let (now, carries) = safe_leg t g may none in
+    record {
+      now = now;
+      carries = carries;
+      next = next_within (peg g) (formed_pegs g may.formed) (length g) t.leg now;
+      within = may.within;
+    }
 
-module _ (s : Stepper) (q : ℕ → ℕ) (r : Step) {t b : List ℕ} (held : arrays t b ≡ shifted s.pegs r.from r.to) where
-  -- The leg's own move, made in the arrays, is the stepper's next.
-  pub leg_made : {l : Leg} → s.turn.left ≡ 0 → l ≡ next_leg s.leg q → r ≡ leg_turn s.turn s.leg l → stepped r t b l ≡ advance s q
-  leg_made none next is = rw (step_leg s q none, ← next, ← is, held)
+-- What a move leaves, with the pegs a after it, in the leg l.
+abbrev pub stepped : Turned → Pegs → Leg → Advance
+stepped r a l = record { from = r.from; to = r.to; stepper = record { pegs = a; turn = r.turn; leg = l } }
+
+-- The leg's own move goes between its pegs.
+pub leg_goes : (u : Turn) (l l' : Leg) {r : Turned} → r ≡ leg_turn u l l' → (r.from ≡ l.from) × (r.to ≡ l.to)
+unfolding leg_turn
+leg_goes u l l' e = (ap (λ (r : Turned). r.from) e, ap (λ (r : Turned). r.to) e)
+
+-- Made in the pegs, it is the stepper's next.
+pub leg_made : {t x : Stepper} {l : Leg} {r : Turned} {a : Pegs} (q : ℕ → ℕ) → t ≡ x → t.turn.left ≡ 0 → l ≡ next_leg t.leg q
+    → r ≡ leg_turn t.turn t.leg l → a ≡ shifted t.pegs r.from r.to → stepped r a l ≡ advance x q
+leg_made {t} q here none next is held = rw (← here, step_leg t q none, ← next, ← is, held)

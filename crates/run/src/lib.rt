@@ -1,7 +1,7 @@
 // Run: many moves of a shortest route at once, each without a fresh plan.
 #![tactic(auto)]
 
-mod pegs;
+pub mod pegs;
 mod start;
 mod stepper;
 mod write;

@@ -1,35 +1,46 @@
-// A position as the topmost disc of each peg and the disc beneath each disc, n + 1 for none: a move changes three numbers of it.
-ghost use Rattle.std.specs.Prelude.{◌≤◌, length};
+// A position as the topmost disc of each peg and the disc beneath each disc, n + 1 for none: a move changes three numbers of it. They are
+// numbers of 64 bits, which the compiler need not widen before it indexes by them.
+ghost use Rattle.std.specs.Prelude.{◌≡◌, ◌<◌, ◌≤◌, length};
 ghost use Rattle.board.specs.Position.{WellFormed};
 ghost use Rattle.board.specs.Task.{limit};
-ghost use Rattle.run.specs.Inner.Pegs.{Holds};
+ghost use Rattle.run.specs.Inner.Pegs.{Holds, Carries, shifted};
 
 use board::LIMIT;
 
 #[derive(Clone, Copy)]
 pub struct Pegs {
-    pub top: [u8; 3],
-    pub beneath: [u8; LIMIT],
+    pub top: [usize; 3],
+    pub beneath: [usize; LIMIT],
 }
 
 impl Pegs {
-    // The arrays of a position, from its largest disc to its smallest: each goes onto what its peg has by then.
+    // The pegs of a position, from its largest disc to its smallest: each goes onto what its peg has by then.
+    #[tactic(auto, using(board::proofs::Formed::formed_pegs, crate::proofs::Held::holds_none))]
     pub fn of(position: &[u8]) -> Pegs
         requires { (length position.now ≤ limit) × WellFormed position.now }
         ensures { Holds result position.now }
     {
-        let mut d = position.len();
-        let mut top = [d as u8 + 1; 3];
-        let mut beneath = [0; LIMIT];
-        while 0 < d {
-            d -= 1;
+        let mut pegs = Pegs {
+            top: [position.len() + 1; 3],
+            beneath: [0; LIMIT],
+        };
+        for d in (0..position.len()).rev() {
             let peg = position[d] as usize;
-            beneath[d] = top[peg];
-            top[peg] = d as u8 + 1;
+            pegs.beneath[d] = pegs.top[peg];
+            pegs.top[peg] = d + 1;
         }
-        Pegs {
-            top: top,
-            beneath: beneath,
-        }
+        pegs
+    }
+
+    // Takes the topmost disc of a peg to another.
+    pub fn carry(&mut self, from: usize, to: usize)
+        requires { (from < 3) × (to < 3) × Carries self.old.top from }
+        ensures { self.new ≡ shifted self.old from to }
+    {
+        let disc = self.top[from];
+        let under = self.beneath[disc - 1];
+        self.beneath[disc - 1] = self.top[to];
+        self.top[from] = under;
+        self.top[to] = disc;
     }
 }

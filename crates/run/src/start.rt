@@ -14,15 +14,14 @@ use route::Opened;
 use route::course::{Course, Stage};
 
 // Disc 1's target when discs 1 to k + 1 are gathered on a target.
+#[tactic(auto, using(board::proofs::Formed::formed_pegs, board::proofs::Pegs::third_peg), unfolding(route::specs::Inner::Aim::aim))]
 fn aim_of(pegs: &[u8], k: usize, target: u8) -> u8
     requires { (k < length pegs.now) × WellFormed pegs.now × (target < 3) }
     ensures { result ≡ aim (peg pegs.now) k target }
 {
     let mut goal = target;
-    let mut d = k;
-    while 0 < d {
-        goal = board::third(goal, pegs[d]);
-        d -= 1;
+    for d in (0..k).rev() {
+        goal = board::third(goal, pegs[d + 1]);
     }
     goal
 }
@@ -49,7 +48,7 @@ fn start_leg(course: Course, stage: Stage, pegs: &[u8], goal: &[u8]) -> Leg
         Stage::Spreading(_) => {
             let disc = plan::crossing::largest_moving(pegs, goal) - 1;
             Leg {
-                disc: disc,
+                disc,
                 from: pegs[disc],
                 to: goal[disc],
                 again: false,
@@ -59,24 +58,21 @@ fn start_leg(course: Course, stage: Stage, pegs: &[u8], goal: &[u8]) -> Leg
 }
 
 // The stepper at a position before a leg.
+#[tactic(auto, using(board::proofs::Pegs::third_peg))]
 fn stepper_at(pegs: &[u8], leg: Leg) -> Stepper
     requires disc_in_bounds { (leg.disc < length pegs.now) × (leg.from < 3) × (leg.to < 3) }
     requires pegs_len_bound { (length pegs.now ≤ limit) × WellFormed pegs.now }
     ensures { Started result pegs.now leg }
 {
     let aside = board::third(leg.from, leg.to);
-    let mut last = leg.disc;
-    if 0 < last {
-        last -= 1;
-    }
     Stepper {
         pegs: Pegs::of(pegs),
         turn: Turn {
             small: pegs[0],
-            aim: aim_of(pegs, last, aside),
+            aim: aim_of(pegs, leg.disc.saturating_sub(1), aside),
             left: plan::stack::gather_discs(pegs, leg.disc, aside),
         },
-        leg: leg,
+        leg,
     }
 }
 

@@ -85,6 +85,7 @@ fn put_route_line(page: &mut Page, task: &[u8], route: u64, moves: u64)
 }
 
 // Puts the report of a task.
+// Stays: the bytes beside their plan and no `Opened`, since Run takes the bytes.
 #[tactic(auto, using(crate::proofs::Runs::lines_none, crate::proofs::Runs::lines_more, crate::proofs::Runs::few_routes), unfolding(crate::specs::Report::report_text))]
 pub fn put_report(page: &mut Page, task: &[u8], plan: Plan)
     requires room { array_vec_len page.old + 6183 ≤ 8192 }

@@ -1,13 +1,12 @@
 -- A walk along a list of moves, and how a position is kept meanwhile.
-use Rattle.std.specs.Prelude.{ℕ, ◌-◌, ◌<◌, ◌≤◌, Bool, not, ◌&&◌, ◌||◌, List, [], ◌∷◌, ◌≡◌, eqb, ltb, length, get_or, take, drop}
+use Rattle.std.specs.Prelude.{ℕ, ◌-◌, ◌<◌, ◌≤◌, Bool, not, ◌&&◌, ◌||◌, cond, List, [], ◌∷◌, ◌≡◌, eqb, ltb, length, get_or, take, drop}
 use Rattle.board.specs.Fewest.{same}
 use Rattle.board.specs.Move.{Move, Legal, Leads}
 use Rattle.board.specs.Position.{peg}
 use Rattle.route.specs.Answer.{letter}
-use Rattle.run.specs.Inner.Pegs.{Holds}
-use Rattle.run.specs.Inner.Stepper.{disc_on}
-use Rattle.run.specs.declared.pegs.Pegs.{Pegs}
+use Rattle.run.specs.Inner.Pegs.{Holds, disc_on, shifted}
 use Rattle.checker.specs.Letters.{is_letter}
+use Rattle.checker.specs.declared.discs.Discs.{Discs}
 use Rattle.checker.specs.declared.walking.Walked.{Walked}
 
 -- The letter of the peg of the first of some discs; 256, which is no byte, for no discs.
@@ -15,11 +14,11 @@ unfoldable pub letter_of : List ℕ → ℕ
 letter_of [] = 256
 letter_of (b ∷ p) = letter b
 
--- The position p is kept as the letters of the pegs of discs 1 and 2 and the arrays of the larger discs.
-pub record Kept (small second : ℕ) (a : Pegs) (p : List ℕ) : Type 0 where
-  pub first : letter (peg p 0) ≡ small
-  pub next : letter_of (drop 1 p) ≡ second
-  pub larger : Holds a (drop 2 p)
+-- The position p is kept as the letters of the pegs of discs 1 and 2 and the pegs of the larger discs.
+pub record Kept (k : Discs) (p : List ℕ) : Type 0 where
+  pub first : letter (peg p 0) ≡ k.small
+  pub next : letter_of (drop 1 p) ≡ k.second
+  pub larger : Holds k.larger (drop 2 p)
 
 -- The test that the bytes x and y are a legal move, where c is the letter of the smallest disc's peg, if some other test says so of the moves
 -- of larger discs: none goes to the peg of the smallest, which may go to any other.
@@ -33,6 +32,13 @@ may_carry t x y = is_letter x && ltb (disc_on t (x - 65)) (disc_on t (y - 65))
 -- The same where c and e are the letters of the pegs of discs 1 and 2, and t are the topmost of the larger discs.
 unfoldable pub may_move : ℕ → ℕ → List ℕ → ℕ → ℕ → Bool
 may_move c e t x y = may_apart c (may_apart e (may_carry t x y) x y) x y
+
+-- The discs after the move of two bytes: disc 1, disc 2 or a larger one has gone to another peg.
+unfoldable pub made : Discs → ℕ → ℕ → Discs
+made k x y =
+    cond (eqb x k.small) (record { small = y; second = k.second; larger = k.larger })
+    (cond (eqb x k.second) (record { small = k.small; second = y; larger = k.larger })
+    (record { small = k.small; second = k.second; larger = shifted k.larger (x - 65) (y - 65) }))
 
 -- The move at an index of a list.
 abbrev pub move_in : List Move → ℕ → Move

@@ -1,27 +1,26 @@
 -- So many moves of a gathering alone, without a leg and a goal, and their letters.
 use Rattle.std.specs.Prelude.{ℕ, zero, suc, ◌%◌, ◌<◌, List, [], ◌∷◌, ◌++◌, ◌≡◌}
 use Rattle.route.specs.Answer.{letter}
-use Rattle.run.specs.Inner.Pegs.{arrays, shifted}
-use Rattle.run.specs.Inner.Stepper.{disc_on, gather_turn, Carries}
+use Rattle.run.specs.Inner.Pegs.{disc_on, Carries, shifted}
+use Rattle.run.specs.Inner.Stepper.{Turned, gather_turn}
 use Rattle.run.specs.declared.pegs.Pegs.{Pegs}
 use Rattle.run.specs.declared.stepper.Turn.{Turn}
-use Rattle.run.specs.declared.stepper.Step.{Step}
 
 -- What a move of a gathering needs: the pegs and the turn.
 pub record Gatherer : Type 0 where
   pub pegs : Pegs
   pub turn : Turn
 
--- The gatherer with the arrays t and b and the turn u.
-abbrev pub gatherer : List ℕ → List ℕ → Turn → Gatherer
-gatherer t b u = record { pegs = arrays t b; turn = u }
+-- The gatherer with the pegs a and the turn u.
+abbrev pub gatherer : Pegs → Turn → Gatherer
+gatherer a u = record { pegs = a; turn = u }
 
 -- Its next move.
-abbrev pub gather_move : Gatherer → Step
+abbrev pub gather_move : Gatherer → Turned
 gather_move g = gather_turn g.pegs.top g.turn
 
 -- The gatherer after a move.
-abbrev pub gather_next : Gatherer → Step → Gatherer
+abbrev pub gather_next : Gatherer → Turned → Gatherer
 gather_next g r = record { pegs = shifted g.pegs r.from r.to; turn = r.turn }
 
 -- The gatherer after so many moves.

@@ -1,23 +1,29 @@
 -- The next move of a route, from the topmost discs alone. A leg is a move of one disc with the gathering of the smaller ones that makes
 -- way for it; a route is one leg after another.
-use Rattle.std.specs.Prelude.{ℕ, zero, suc, ◌+◌, ◌-◌, ◌%◌, ◌≤◌, ◌<◌, false, cond, List, ◌≡◌, eqb, ltb, length, get_or}
+use Rattle.std.specs.Prelude.{ℕ, zero, suc, ◌+◌, ◌-◌, ◌%◌, ◌≤◌, ◌<◌, false, cond, List, ◌≡◌, eqb, ltb, length}
 use Rattle.board.specs.Peg.{third}
 use Rattle.board.specs.Position.{peg, WellFormed}
 use Rattle.board.specs.Task.{limit}
 use Rattle.plan.specs.Tower.{tower_length}
-use Rattle.run.specs.Inner.Pegs.{shifted}
+use Rattle.run.specs.Inner.Pegs.{disc_on, Carries, shifted}
 use Rattle.run.specs.declared.stepper.Leg.{Leg}
 use Rattle.run.specs.declared.stepper.Turn.{Turn}
 use Rattle.run.specs.declared.stepper.Stepper.{Stepper}
 use Rattle.run.specs.declared.stepper.Step.{Step}
 
--- Disc 1 goes to its target; the gathering has one move less.
-unfoldable pub small_turn : Turn → Step
-small_turn u = record { from = u.small; to = u.aim; turn = record { small = u.aim; aim = u.aim; left = u.left - 1 } }
+-- A move, and the turn after it.
+pub record Turned : Type 0 where
+  pub from : ℕ
+  pub to : ℕ
+  pub turn : Turn
 
--- The number of the topmost disc of a peg, of the topmost discs t.
-abbrev pub disc_on : List ℕ → ℕ → ℕ
-disc_on t i = get_or t i 0
+-- A step with the turn u after it.
+abbrev pub turned : Step → Turn → Turned
+turned r u = record { from = r.from; to = r.to; turn = u }
+
+-- Disc 1 goes to its target; the gathering has one move less.
+unfoldable pub small_turn : Turn → Turned
+small_turn u = record { from = u.small; to = u.aim; turn = record { small = u.aim; aim = u.aim; left = u.left - 1 } }
 
 -- Of the two pegs without disc 1, which is on peg i, the one after it.
 abbrev pub second : ℕ → ℕ
@@ -40,14 +46,14 @@ abbrev pub aim_after : ℕ → ℕ → ℕ → ℕ
 aim_after disc from to = cond (eqb (disc % 2) 0) to from
 
 -- The move without disc 1; the gathering has one move less.
-unfoldable pub other_turn : List ℕ → Turn → Step
+unfoldable pub other_turn : List ℕ → Turn → Turned
 other_turn t u =
     let from = other_from t u.small in
     let to = other_to t u.small in
     record { from = from; to = to; turn = record { small = u.small; aim = aim_after (disc_on t from) from to; left = u.left - 1 } }
 
 -- A move of the gathering: disc 1's where an odd number is left, else the other.
-unfoldable pub gather_turn : List ℕ → Turn → Step
+unfoldable pub gather_turn : List ℕ → Turn → Turned
 gather_turn t u = cond (eqb (u.left % 2) 1) (small_turn u) (other_turn t u)
 
 -- Disc 1's target when a tower of k discs goes from peg w to peg j.
@@ -55,7 +61,7 @@ unfoldable pub tower_aim : ℕ → ℕ → ℕ → ℕ
 tower_aim k w j = cond (eqb (k % 2) 1) j (third w j)
 
 -- The own move of the leg l; the next leg, l', begins with the smaller discs as a tower.
-unfoldable pub leg_turn : Turn → Leg → Leg → Step
+unfoldable pub leg_turn : Turn → Leg → Leg → Turned
 leg_turn u l l' =
     record {
       from = l.from;
@@ -86,7 +92,7 @@ pub record Advance : Type 0 where
   pub stepper : Stepper
 
 -- The stepper makes a step, after which it is in the leg l.
-abbrev pub made : Stepper → Step → Leg → Advance
+abbrev pub made : Stepper → Turned → Leg → Advance
 made s r l =
     record {
       from = r.from;
@@ -109,10 +115,6 @@ advance s q = cond (eqb s.turn.left 0) (leg_step s q) (gather_step s)
 -- The number of the topmost disc of a peg.
 abbrev pub top_of : Stepper → ℕ → ℕ
 top_of s i = disc_on s.pegs.top i
-
--- Of the topmost discs t, peg i has a disc to carry.
-abbrev pub Carries : List ℕ → ℕ → Type 0
-Carries t i = (0 < disc_on t i) × (disc_on t i ≤ limit)
 
 -- The stepper can make its next move: the move is one of a disc between pegs, disc 1 is on top where the move is its own, and a leg's
 -- discs are among the goal's.

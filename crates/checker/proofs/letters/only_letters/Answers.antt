@@ -1,25 +1,14 @@
--- `checker::letters::only_letters` meets its contract. The loop's invariant: what is left of the bytes decides. The measure is what is left
--- of the length. Assumes nothing.
-use mathlib.Core.Path.{◌∙◌, sym, ap}
-use native.Mathlib.Numerals.{add-one}
-use native.Mathlib.Omega.{arith}
-use Rattle.checker.specs.Letters.{is_letter}
-use Rattle.checker.proofs.Pairs.{letters_past, letters_fail, letters_end}
+-- The test of all bytes is the one that recurses over them.
+use Rattle.std.proofs.Common.{◌∙◌, ◌&&◌, refl, rules, tests}
+use Rattle.std.proofs.lemmas.Iterator.{YieldsList-from_slice}
+use Rattle.std.proofs.lemmas.Iterator.Search.{all_from_yields_List}
+use Rattle.std.proofs.lemmas.List.Recursion.{same_from_clauses}
+use Rattle.std.specs.List.{list_all}
+use Rattle.checker.specs.Letters.{is_letter, all_letters}
 use Rattle.checker.proofs.letters.only_letters.Goals as goal
 
--- A byte is no letter.
-pub returns-then-not-is_letter : goal.returns-then-not-is_letter
-returns-then-not-is_letter c =
-    let letter = ap is_letter (sym c.wide.ensures.value) ∙ sym c.is_letter.ensures in
-    sym (sym c.loop-i.invariant.1 ∙ letters_fail _ c.loop-i.i (omega arith) (letter ∙ c.if-not-is_letter.true))
-
--- A letter is passed.
-pub loop-i-preserved : goal.loop-i-preserved
-loop-i-preserved c =
-    let letter = ap is_letter (sym c.wide.ensures.value) ∙ sym c.is_letter.ensures in
-    (omega arith, rw add-one (letters_past _ c.loop-i.i (omega arith) (letter ∙ c.if-not-is_letter.false) ∙ c.loop-i.invariant.1))
-
--- All are letters.
 pub returns : goal.returns
+unfolding all_letters
 returns c =
-    sym (sym c.loop-i.invariant.1 ∙ letters_end _ c.loop-i.i (omega arith))
+    all_from_yields_List is_letter _ _ _ c.all.ensures.ran (YieldsList-from_slice c.args.bytes.now cc) (λ x b q called. search (rules, tests))
+    ∙ same_from_clauses (list_all is_letter) all_letters (λ x rest. is_letter x && rest) refl (λ x xs. refl) (λ x xs. refl) c.args.bytes.now

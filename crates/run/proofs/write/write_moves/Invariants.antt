@@ -1,18 +1,20 @@
--- `run::write::write_moves` meets its contract. The loop's invariant: `out` has i moves and then what it had, and the arrays, the turn and
--- the leg are those of the stepper after them. The measure is what is left of `count`. Assumes nothing.
+-- `out` has i moves and then what it had, and the pegs, the turn and the leg are those of the stepper after them.
 use Prim.Native.Nat.{◌-◌, ◌*◌, ◌≤◌}
 use mathlib.Core.List.{◌++◌}
 use mathlib.Core.Path.{◌≡◌}
-use lib.ListN.{length, drop}
+use lib.ListN.{drop}
 use Rattle.board.specs.Position.{peg}
 use Rattle.run.specs.Inner.Written.{steps_from, step_letters}
-use Rattle.run.proofs.Steps.{standing}
+use Rattle.run.specs.declared.stepper.Stepper.{Stepper}
 use Rattle.run.proofs.write.write_moves.Given as goal
 
 abbrev pub invariant-loop-i : goal.invariant-loop-i
-invariant-loop-i l = (l.i ≤ l.count) × (length l.out ≡ length l.initial.out)
-    × (standing l.top l.beneath l.turn l.leg ≡ steps_from (standing l.initial.top l.initial.beneath l.initial.turn l.initial.leg) (peg l.goal) l.i)
-    × (l.out ≡ step_letters (standing l.initial.top l.initial.beneath l.initial.turn l.initial.leg) (peg l.goal) l.i ++ drop (2 * l.i) l.initial.out)
+invariant-loop-i l =
+    record {
+      some : l.i ≤ l.count;
+      stepper_after : ◌≡◌ {A = Stepper} (record { pegs = l.pegs; turn = l.turn; leg = l.leg }) (steps_from l.fn.stepper (peg l.goal) l.i);
+      written : l.out ≡ step_letters l.fn.stepper (peg l.goal) l.i ++ drop (2 * l.i) l.fn.out;
+    }
 
 abbrev pub decreases-loop-i : goal.decreases-loop-i
 decreases-loop-i l = l.count - l.i

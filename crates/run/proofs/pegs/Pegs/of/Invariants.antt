@@ -1,12 +1,6 @@
--- `run::pegs::Pegs::of` meets its contract. The loop's invariant: the arrays hold the discs after the first `d`. The measure is `d`.
--- Assumes nothing.
-use Prim.Native.Nat.{◌≤◌}
-use lib.ListN.{length}
+-- The pegs hold the discs after the first d.
 use Rattle.run.proofs.Held.{HoldsFrom}
 use Rattle.run.proofs.pegs.Pegs.of.Given as goal
 
 abbrev pub invariant-loop-d : goal.invariant-loop-d
-invariant-loop-d l = (l.d ≤ length l.position) × HoldsFrom l.top l.beneath l.position l.d
-
-abbrev pub decreases-loop-d : goal.decreases-loop-d
-decreases-loop-d l = l.d
+invariant-loop-d l = HoldsFrom l.pegs.top l.pegs.beneath l.position l.d
