@@ -11,5 +11,7 @@ pub mod Hinz
 pub mod Terms
 -- What request 10 asks of the call.
 pub mod Request10
+-- What the programs print.
+pub mod Printed
 -- What our own functions promise each other.
 pub mod Inner

@@ -1,8 +1,8 @@
 // Hinz's recurrences: the terms of a board from those of the board with one disc less.
 ghost use Rattle.std.specs.Prelude.{◌≡◌, ◌≤◌};
 ghost use Rattle.averages.specs.Answer.{totals_limit};
-ghost use Rattle.averages.specs.Inner.Next.{next_sum, next_of, totals_in};
-ghost use Rattle.averages.specs.Terms.{terms_of, next_u, next_v, next_x, next_y, next_ties, Fits};
+ghost use Rattle.averages.specs.Inner.Next.{next_of, totals_in};
+ghost use Rattle.averages.specs.Terms.{terms_of, Fits};
 
 use crate::answer::Totals;
 
@@ -21,6 +21,7 @@ pub struct Terms {
 
 impl Terms {
     // No discs.
+    #[tactic(auto, unfolding(crate::specs::Terms::terms_of, crate::specs::Hinz::u, crate::specs::Hinz::v, crate::specs::Hinz::x, crate::specs::Hinz::y, crate::specs::Hinz::sum_by, crate::specs::Hinz::ties_by))]
     fn none() -> Terms
         ensures { result ≡ terms_of 0 }
     {
@@ -36,71 +37,32 @@ impl Terms {
         }
     }
 
-    // u of one disc more.
-    fn next_u(self) -> u64
-        requires { Fits self }
-        ensures { result ≡ next_u self }
-    {
-        let six = self.two * self.three;
-        2 * self.u + 2 * self.v + (self.three + 1) * (six - 1) / 5
-    }
-
-    // v of one disc more.
-    fn next_v(self) -> u64
-        requires { Fits self }
-        ensures { result ≡ next_v self }
-    {
-        let six = self.two * self.three;
-        2 * self.u + 3 * self.v + (six - 1) / 5 + six * (self.three - 1) / 2
-    }
-
-    // x of one disc more.
-    fn next_x(self) -> u64
-        requires { Fits self }
-        ensures { result ≡ next_x self }
-    {
-        2 * self.x + 2 * self.y + 1
-    }
-
-    // y of one disc more.
-    fn next_y(self) -> u64
-        requires { Fits self }
-        ensures { result ≡ next_y self }
-    {
-        2 * self.x + 3 * self.y + 1
-    }
-
-    // The sum of one disc more.
-    fn next_sum(self) -> u64
-        requires { Fits self }
-        ensures { result ≡ next_sum self }
-    {
-        let nine = self.three * self.three;
-        3 * self.sum + 2 * nine * (4 * self.two - 1) - 6 * self.u
-    }
-
-    // The ties of one disc more.
-    fn next_ties(self) -> u64
-        requires { Fits self }
-        ensures { result ≡ next_ties self }
-    {
-        3 * self.ties + 6 * self.x
-    }
-
     // One disc more.
     fn next(self) -> Terms
         requires { Fits self }
         ensures { result ≡ next_of self }
     {
+        let Terms {
+            two,
+            three,
+            u,
+            v,
+            x,
+            y,
+            sum,
+            ties,
+        } = self;
+        let six = two * three;
+        let nine = three * three;
         Terms {
-            two: 2 * self.two,
-            three: 3 * self.three,
-            u: self.next_u(),
-            v: self.next_v(),
-            x: self.next_x(),
-            y: self.next_y(),
-            sum: self.next_sum(),
-            ties: self.next_ties(),
+            two: 2 * two,
+            three: 3 * three,
+            u: 2 * u + 2 * v + (three + 1) * (six - 1) / 5,
+            v: 2 * u + 3 * v + (six - 1) / 5 + six * (three - 1) / 2,
+            x: 2 * x + 2 * y + 1,
+            y: 2 * x + 3 * y + 1,
+            sum: 3 * sum + 2 * nine * (4 * two - 1) - 6 * u,
+            ties: 3 * ties + 6 * x,
         }
     }
 

@@ -1,14 +1,15 @@
 -- Laws of positions in arrays: what a record holds, and what a move leaves of it.
 use Prim.Native.Nat.{ℕ, zero, suc, ◌+◌, ◌-◌, ◌≤◌, ◌<◌}
-use mathlib.Core.Bool.{true, and-eq-true_iff}
+use mathlib.Core.Bool.{true, ◌&&◌, and-eq-true_iff}
 use mathlib.Core.List.{List, [], ◌∷◌, ◌++◌}
 use mathlib.Core.Logic.{◌↔◌}
 use mathlib.Core.Path.{◌≡◌, ◌∙◌, refl, sym, ap}
 use native.Mathlib.Omega.{arith}
+use native.Mathlib.Numerals.{add-one}
 use borrow.Author.Tests.{eq-eqb, eqb-true}
 use lib.Dec.{eqb}
 use lib.ListN.{length, get_or, take, drop, replicate, set, length-set, length-drop, length-take, take-append-drop}
-use lib.Seq.{get_or-take, get_or-drop, take_at, drop_at, set-append_left, take_all}
+use lib.Seq.{drop-cons, get_or-take, get_or-drop, take_at, drop_at, set-append_left, take_all, take-length}
 use Rattle.board.specs.Held.{padded, all_zero, holds_position, HoldsPosition}
 use Rattle.board.specs.Move.{Move, Legal, top, moved}
 use Rattle.board.specs.Position.{well_formed, WellFormed}
@@ -33,6 +34,14 @@ zero_zeros (b ∷ a) e =
 -- Behind the position stand the zeros that are left.
 pub drop_zeros : (p : List ℕ) → p ++ drop (length p) (replicate limit 0) ≡ padded p
 drop_zeros p = rw drop_replicate
+
+-- A position copied over the first of as many zeros as there can be discs is its array.
+pub copied_over : {a : List ℕ} (p : List ℕ) → a ≡ p → a ++ drop (length p) (replicate limit 0) ≡ padded p
+copied_over p e = ap (λ (b : List ℕ). b ++ drop (length p) (replicate limit 0)) e ∙ drop_zeros p
+
+-- The same, of the position's own bytes.
+pub copied_padded : (p : List ℕ) → take (length p) p ++ drop (length p) (replicate limit 0) ≡ padded p
+copied_padded p = rw (take-length, drop_replicate)
 
 -- The used bytes of a position's array are the position.
 pub padded_take : (p : List ℕ) (n : ℕ) → length p ≡ n → take n (padded p) ≡ p
@@ -93,6 +102,19 @@ held_padded n a within size h =
 pub padded_moved : (p : List ℕ) (m : Move) → Legal p m → set (padded p) (top p m.from) m.to ≡ padded (moved p m)
 unfolding moved
 padded_moved p m l = rw (set-append_left p, length-set, l.there)
+
+-- The test from byte i on is the test of that byte and of those after it.
+zero_from : (p : List ℕ) (i : ℕ) → i < length p → all_zero (drop i p) ≡ (eqb (get_or p i 0) 0 && all_zero (drop (suc i) p))
+unfolding all_zero
+zero_from p i h = ap all_zero (drop-cons p i 0 h)
+
+-- A 0 at i leaves the test to the bytes after it.
+pub zero_past : (p : List ℕ) (i : ℕ) → i < length p → get_or p i 0 ≡ 0 → all_zero (drop (suc i) p) ≡ all_zero (drop i p)
+zero_past p i h z = rw (zero_from p i h, eq-eqb (get_or p i 0) 0 z)
+
+-- The same, with the next index as the code says it.
+pub zero_here : (p : List ℕ) (i : ℕ) → i < length p → get_or p i 0 ≡ 0 → all_zero (drop (i + 1) p) ≡ all_zero (drop i p)
+zero_here p i h z = rw add-one (zero_past p i h z)
 
 -- `&a[n..]` of an array of `limit` bytes is what comes after the first n.
 pub part_to_limit : (n : ℕ) (a : List ℕ) → length a ≡ limit → take (limit - n) (drop n a) ≡ drop n a

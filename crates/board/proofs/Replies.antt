@@ -3,6 +3,8 @@ use Prim.Native.Nat.{ℕ}
 use mathlib.Core.Bool.{Bool, true, false}
 use mathlib.Core.Path.{◌≡◌, refl, sym}
 use native.Mathlib.Omega.{arith}
+use Rattle.std.specs.Prelude.{Result, Err, IsErrAnd}
+use Rattle.std.proofs.lemmas.Result.{err_from_is_err_and}
 use Rattle.board.specs.Reply.{Reply, refused, answer, ◌>>◌, ◌>>=◌, Check, pass, check}
 
 -- A refusal is no value.
@@ -46,3 +48,7 @@ made_refused (answer a) f e = absurd (refused_answer (sym e))
 pub made_answered : {A B : Type 0} {b : B} (r : Reply A) (f : A → B) → (r >>= λ a. answer (f a)) ≡ answer b → (a : A) × (r ≡ answer a) × (f a ≡ b)
 made_answered (refused j) f e = absurd (refused_answer e)
 made_answered (answer a) f e = (a, refl, cc)
+
+-- What goes up by `?` is the refusal.
+pub goes_up : {T E : Type 0} {e : E} (r : Result T E) → IsErrAnd r (λ y. y ≡ e) → r ≡ Err e
+goes_up r h = let p = err_from_is_err_and r h in rw (p.1, p.2)

@@ -1,13 +1,14 @@
 -- The smallest disc of a peg, and what a move leaves of a position.
-use Prim.Native.Nat.{ℕ, zero, suc, ◌≤◌, ◌<◌}
+use Prim.Native.Nat.{ℕ, zero, suc, ◌+◌, ◌≤◌, ◌<◌}
 use mathlib.Core.Path.{◌≡◌}
 use mathlib.Core.List.{List, [], ◌∷◌}
 use mathlib.Core.Logic.{◌≢◌}
 use native.Mathlib.Decide.{ℕ_discrete, dec_lt}
+use native.Mathlib.Numerals.{add-one}
 use native.Mathlib.Omega.{arith}
 use borrow.Author.Tests.{eq-eqb, ne_eqb}
-use lib.ListN.{length, length-set}
-use lib.Seq.{get_or-set_same, get_or-set_other}
+use lib.ListN.{length, drop, length-set, drop_of_length-le}
+use lib.Seq.{drop-cons, get_or-set_same, get_or-set_other}
 use Rattle.board.specs.Position.{peg}
 use Rattle.board.specs.Move.{Move, top, moved}
 
@@ -20,6 +21,19 @@ top_here p {b} {i} e = rw (eq-eqb b i e)
 pub top_there : (p : List ℕ) {b i : ℕ} → b ≢ i → top (b ∷ p) i ≡ suc (top p i)
 unfolding top
 top_there p {b} {i} n = rw (ne_eqb b i n)
+
+-- The smallest disc from i on, where disc i is on the peg.
+pub top_from_here : (p : List ℕ) (i j : ℕ) → i < length p → peg p i ≡ j → top (drop i p) j ≡ 0
+top_from_here p i j h e = rw (drop-cons p i 0 h) (top_here (drop (suc i) p) e)
+
+-- The same where disc i is elsewhere.
+pub top_from_there : (p : List ℕ) (i j : ℕ) → i < length p → peg p i ≢ j → top (drop i p) j ≡ suc (top (drop (i + 1) p) j)
+top_from_there p i j h n = rw (add-one, drop-cons p i 0 h) (top_there (drop (suc i) p) n)
+
+-- The same where no disc is left.
+pub top_from_none : (p : List ℕ) (i j : ℕ) → length p ≤ i → top (drop i p) j ≡ 0
+unfolding top
+top_from_none p i j h = rw (drop_of_length-le p h)
 
 -- The place of a peg's smallest disc is at most the number of discs.
 pub top_le : (p : List ℕ) (i : ℕ) → top p i ≤ length p

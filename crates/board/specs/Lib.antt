@@ -8,5 +8,6 @@ pub mod Refusal
 pub mod Task
 pub mod Legal
 pub mod Held
+pub mod Printed
 -- What demand 1 says of the calls.
 pub mod Fault

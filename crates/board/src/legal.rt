@@ -7,6 +7,7 @@ ghost use Rattle.board.specs.Refusal.{reply_of};
 use crate::refusal::Refusal;
 
 // The place of a peg's smallest disc, or the number of discs where the peg is empty.
+// Stays: the number of discs and no `Option`, as the clause of this public function has it (`top` of specs/Move).
 pub fn top_of(position: &[u8], peg: u8) -> usize
     ensures { result ≡ top position.now peg }
 {
@@ -21,17 +22,11 @@ pub fn top_of(position: &[u8], peg: u8) -> usize
 pub fn legal_verdict(position: &[u8], from: u8, to: u8) -> Result<(), Refusal>
     ensures { reply_of result ≡ legal_check position.now (record { from = from; to = to }) }
 {
-    if 3 <= from {
+    if 3 <= from || 3 <= to {
         return Err(Refusal::NotAPeg);
-    }
-    if 3 <= to {
-        return Err(Refusal::NotAPeg);
-    }
-    if from == to {
-        return Err(Refusal::NoDisc);
     }
     let disc = top_of(position, from);
-    if disc == position.len() {
+    if from == to || disc == position.len() {
         return Err(Refusal::NoDisc);
     }
     if top_of(position, to) < disc {

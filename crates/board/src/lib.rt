@@ -10,7 +10,7 @@ mod task;
 
 pub use held::{holds_position, padded_array};
 pub use legal::{legal_verdict, top_of};
-pub use peg::third;
+pub use peg::{Letter, third};
 pub use position::{LIMIT, only_pegs, position_verdict, same_position};
 pub use refusal::Refusal;
 pub use task::task_verdict;

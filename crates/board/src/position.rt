@@ -18,6 +18,7 @@ pub fn only_pegs(bytes: &[u8]) -> bool
 }
 
 // Whether two positions are the same.
+// Stays: `==` in a function of its own, since it is a public one, and its clause has `same`, the word that the theorems use.
 #[tactic(auto, using(crate::proofs::Search::same_each))]
 pub fn same_position(a: &[u8], b: &[u8]) -> bool
     ensures { result ≡ same a.now b.now }

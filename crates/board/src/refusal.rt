@@ -1,5 +1,6 @@
 // Why a call is refused, and the number that documents 01 and 02 give each reason.
-ghost use Rattle.std.specs.Prelude.{◌≡◌};
+ghost use Rattle.std.specs.Prelude.{◌≡◌, Some};
+ghost use Rattle.board.specs.Printed.{refusal_text};
 ghost use Rattle.board.specs.Refusal.{number as number_of};
 
 use std::error::Error;
@@ -7,55 +8,38 @@ use std::fmt;
 
 #[derive(Clone, Copy, Debug, PartialEq, Eq)]
 pub enum Refusal {
-    OddLength,
-    TooManyDiscs,
-    NotAPeg,
-    NoSuchRoute,
-    NoSuchIndex,
-    ShortBuffer,
-    WrongSize,
-    NoDisc,
-    SmallerInTheWay,
-    UnsoundRecord,
-    TooManyPlays,
-    BadText,
-    NotWholeTasks,
-    NotLetterPairs,
-    IllegalMove,
-    NotShortest,
-    EmptyTower,
-    TooLargeToTotal,
+    OddLength = 1,
+    TooManyDiscs = 2,
+    NotAPeg = 3,
+    NoSuchRoute = 4,
+    NoSuchIndex = 5,
+    ShortBuffer = 6,
+    WrongSize = 7,
+    NoDisc = 8,
+    SmallerInTheWay = 9,
+    UnsoundRecord = 10,
+    TooManyPlays = 11,
+    BadText = 12,
+    NotWholeTasks = 13,
+    NotLetterPairs = 14,
+    IllegalMove = 15,
+    NotShortest = 16,
+    EmptyTower = 19,
+    TooLargeToTotal = 20,
 }
 
 impl Refusal {
     pub fn number(self) -> u64
         ensures { result ≡ number_of self }
     {
-        match self {
-            Refusal::OddLength => 1,
-            Refusal::TooManyDiscs => 2,
-            Refusal::NotAPeg => 3,
-            Refusal::NoSuchRoute => 4,
-            Refusal::NoSuchIndex => 5,
-            Refusal::ShortBuffer => 6,
-            Refusal::WrongSize => 7,
-            Refusal::NoDisc => 8,
-            Refusal::SmallerInTheWay => 9,
-            Refusal::UnsoundRecord => 10,
-            Refusal::TooManyPlays => 11,
-            Refusal::BadText => 12,
-            Refusal::NotWholeTasks => 13,
-            Refusal::NotLetterPairs => 14,
-            Refusal::IllegalMove => 15,
-            Refusal::NotShortest => 16,
-            Refusal::EmptyTower => 19,
-            Refusal::TooLargeToTotal => 20,
-        }
+        self as u64
     }
 }
 
 // The word and the number, as the programs print them.
 impl fmt::Display for Refusal {
+    ghost output = { λ refusal. Some (refusal_text refusal) };
+
     fn fmt<W: fmt::Write>(&self, f: &mut fmt::Formatter<W>) -> fmt::Result {
         write!(f, "refused {}", self.number())
     }

@@ -1,2 +1,4 @@
+-- How much Run writes.
+mod Runs
 -- The table holds.
 pub mod Table

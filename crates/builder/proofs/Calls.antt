@@ -14,8 +14,9 @@ use Rattle.board.proofs.Replies.{check_passed, check_answered}
 use Rattle.builder.specs.Answer.{add_answer, with_disc, add_leaves, remove_answer, without_disc, remove_leaves}
 use Rattle.builder.specs.Builder.{sound, Sound}
 use Rattle.builder.specs.Faults.{add_faults, remove_faults}
+use Rattle.builder.specs.Inner.Lengths.{Grows}
 use Rattle.builder.specs.declared.record.Builder.{Builder}
-use Rattle.builder.proofs.Holding.{passed_sound, sound_passes, sound_exactly}
+use Rattle.builder.proofs.Holding.{passed_sound, sound_passes, sound_exactly, sound_grows}
 
 -- A builder is refused with 10 exactly where it is not sound.
 sound_obeys : (b : Builder) → Obeys (fault 10 (¬ Sound b) ∷ []) (check (not (sound b)) 10)
@@ -71,6 +72,10 @@ add_accepted b j e =
       room = omega (arith, eqb-false b.n limit more, s.few);
       target = omega (arith, ltb-false 2 j (check_passed (ltb 2 j) 3 last));
     }
+
+-- So its lengths leave room for the disc.
+pub add_grows : (b : Builder) (j : ℕ) → add_answer b j ≡ pass → Grows b.lengths b.n j
+add_grows b j e = let a = add_accepted b j e in sound_grows a.sounds a.room a.target
 
 -- Such an addition is accepted.
 pub add_accepts : (b : Builder) (j : ℕ) → AddAccepted b j → add_answer b j ≡ pass

@@ -5,16 +5,18 @@ use mathlib.Core.Logic.{◌≢◌}
 use mathlib.Core.Path.{◌≡◌, ◌∙◌, refl, sym, ap}
 use native.Mathlib.Omega.{arith}
 use borrow.Author.Tests.{ne_eqb}
-use lib.ListN.{length, get_or, set, take, length-append}
+use lib.ListN.{length, get_or, set, take, length-append, length-take}
 use lib.Seq.{length-take-le, take-suc, get_or-append_seam}
 use Rattle.board.specs.Peg.{third}
 use Rattle.board.specs.Position.{peg, WellFormed}
-use Rattle.board.proofs.Formed.{formed_pegs}
+use Rattle.board.specs.Task.{limit}
+use Rattle.board.proofs.Formed.{formed_pegs, formed_take}
 use Rattle.board.proofs.Pegs.{third_peg}
 use Rattle.plan.specs.Gather.{gather}
 use Rattle.plan.proofs.Gathering.{Pegs, gather_append, gather_bound}
+use Rattle.builder.specs.Inner.Lengths.{Grows}
 use Rattle.builder.specs.Lengths.{gathers, share, lengths_with, lengths_without}
-use Rattle.builder.proofs.EachPeg.{each, of_three, alike, agree, each_at}
+use Rattle.builder.proofs.EachPeg.{each, alike, agree, each_at}
 
 -- The length of a position for target i is Gather's.
 pub gathers_at : (p : List ℕ) (i : ℕ) → i < 3 → get_or (gathers p) i 0 ≡ gather (peg p) (length p) i
@@ -62,40 +64,22 @@ without_with d =
 abbrev pub exchanged : (ℕ → ℕ) → ℕ → List ℕ → List ℕ
 exchanged f j l = set (set l ((j + 1) % 3) (f (get_or l ((j + 2) % 3) 0))) ((j + 2) % 3) (f (get_or l ((j + 1) % 3) 0))
 
--- m is three lengths so made of l: that of j, that of the peg after it, and that of the last.
-pub record Exchanged (f : ℕ → ℕ) (j : ℕ) (l m : List ℕ) : Type 0 where
-  pub three : length m ≡ 3
-  pub own : get_or m j 0 ≡ get_or l j 0
-  pub next : get_or m ((j + 1) % 3) 0 ≡ f (get_or l ((j + 2) % 3) 0)
-  pub last : get_or m ((j + 2) % 3) 0 ≡ f (get_or l ((j + 1) % 3) 0)
-
--- They are the only ones.
-pub exchanged_is : (f : ℕ → ℕ) (j : ℕ) → j < 3 → (l m : List ℕ) → length l ≡ 3 → Exchanged f j l m → m ≡ exchanged f j l
-exchanged_is f j h l m three e =
-    of_three (λ l. Exchanged f j l m → m ≡ exchanged f j l)
-    (λ a b c. of_three (λ m. Exchanged f j (a ∷ b ∷ c ∷ []) m → m ≡ exchanged f j (a ∷ b ∷ c ∷ []))
-    (λ x y z. each (λ j. Exchanged f j (a ∷ b ∷ c ∷ []) (x ∷ y ∷ z ∷ []) → x ∷ y ∷ z ∷ [] ≡ exchanged f j (a ∷ b ∷ c ∷ []))
-    (λ e. alike e.own e.next e.last)
-    (λ e. alike e.last e.own e.next)
-    (λ e. alike e.next e.last e.own)
-    j h)
-    m e.three)
-    l three e
-
 -- Exchanged and 2 ^ d more, they are those with disc d + 1 on j.
-pub exchanged_with : (d j : ℕ) → j < 3 → (l : List ℕ) → length l ≡ 3 → exchanged (λ k. k + 2 ^ d) j l ≡ lengths_with l d j
+pub exchanged_with : (d far : ℕ) → far ≡ 2 ^ d → (j : ℕ) → j < 3 → (l : List ℕ) → length l ≡ 3
+    → exchanged (λ k. k + far) j l ≡ lengths_with l d j
 unfolding lengths_with third
-exchanged_with d =
-    agree (exchanged (λ k. k + 2 ^ d)) (λ j l. lengths_with l d j)
+exchanged_with d far e =
+    agree (exchanged (λ k. k + far)) (λ j l. lengths_with l d j)
     (λ a b c. alike (omega arith) (omega arith) (omega arith))
     (λ a b c. alike (omega arith) (omega arith) (omega arith))
     (λ a b c. alike (omega arith) (omega arith) (omega arith))
 
 -- And 2 ^ d less, those without it.
-pub exchanged_without : (d j : ℕ) → j < 3 → (l : List ℕ) → length l ≡ 3 → exchanged (λ k. k - 2 ^ d) j l ≡ lengths_without l d j
+pub exchanged_without : (d far : ℕ) → far ≡ 2 ^ d → (j : ℕ) → j < 3 → (l : List ℕ) → length l ≡ 3
+    → exchanged (λ k. k - far) j l ≡ lengths_without l d j
 unfolding lengths_without third
-exchanged_without d =
-    agree (exchanged (λ k. k - 2 ^ d)) (λ j l. lengths_without l d j)
+exchanged_without d far e =
+    agree (exchanged (λ k. k - far)) (λ j l. lengths_without l d j)
     (λ a b c. alike (omega arith) (omega arith) (omega arith))
     (λ a b c. alike (omega arith) (omega arith) (omega arith))
     (λ a b c. alike (omega arith) (omega arith) (omega arith))
@@ -103,6 +87,18 @@ exchanged_without d =
 -- Each length is below 2 ^ n.
 pub gathers_small : (p : List ℕ) → WellFormed p → (i : ℕ) → i < 3 → get_or (gathers p) i 0 < 2 ^ length p
 gathers_small p formed i h = rw (gathers_at p i h) (gather_bound (peg p) (formed_pegs p formed) (length p) i h)
+
+-- So the lengths of the first d of at most `limit` discs leave room for the next.
+pub next_grows : (a : List ℕ) (n d : ℕ) {l : List ℕ} → n ≤ limit → WellFormed (take n a) → d < length (take n a)
+    → l ≡ gathers (take d (take n a)) → Grows l d (peg (take n a) d)
+next_grows a n d few formed h e =
+    let p = take n a in
+    let size : length (take d p) ≡ d = length-take-le d p (omega arith) in
+    record {
+      within = omega (arith, length-take n a);
+      target = formed_pegs p formed d;
+      small = λ i h. rw e (rw size at (gathers_small (take d p) (formed_take d p formed) i h));
+    }
 
 -- A disc that is not on the target has 2 ^ d moves in its length.
 pub with_large : (l : List ℕ) (d j i : ℕ) → i < 3 → i ≢ j → 2 ^ d ≤ get_or (lengths_with l d j) i 0

@@ -6,7 +6,6 @@ ghost use Rattle.builder.specs.Inner.Made.{made_by_add, made_by_remove};
 
 use crate::lengths::{with_disc, without_disc};
 use crate::record::Builder;
-use crate::sound::is_sound;
 use board::{LIMIT, Refusal};
 
 // An answer, and the builder after it.
@@ -31,33 +30,62 @@ impl Built {
     }
 }
 
-// The first fault of an addition.
-#[tactic(auto, using(std::proofs::lemmas::Bool::Decides::nat_tests), unfolding(crate::specs::Answer::add_answer))]
-fn add_verdict(b: Builder, peg: u8) -> Result<(), Refusal>
-    ensures { reply_of result ≡ add_answer b peg }
-{
-    if !is_sound(b) {
-        return Err(Refusal::UnsoundRecord);
+impl Builder {
+    // The first fault of an addition.
+    #[tactic(auto, using(std::proofs::lemmas::Bool::Decides::nat_tests), unfolding(crate::specs::Answer::add_answer))]
+    fn add_verdict(&self, peg: u8) -> Result<(), Refusal>
+        ensures { reply_of result ≡ add_answer self.now peg }
+    {
+        if !self.is_sound() {
+            return Err(Refusal::UnsoundRecord);
+        }
+        if self.n == LIMIT {
+            return Err(Refusal::TooManyDiscs);
+        }
+        if 2 < peg {
+            return Err(Refusal::NotAPeg);
+        }
+        Ok(())
     }
-    if b.n == LIMIT {
-        return Err(Refusal::TooManyDiscs);
-    }
-    if 2 < peg {
-        return Err(Refusal::NotAPeg);
-    }
-    Ok(())
-}
 
-// The builder with one disc more.
-#[tactic(auto, using(crate::proofs::Calls::add_accepted), unfolding(crate::specs::Answer::with_disc))]
-fn added(mut b: Builder, peg: u8) -> Result<Builder, Refusal>
-    ensures { reply_of result ≡ made_by_add b peg }
-{
-    add_verdict(b, peg)?;
-    b.position[b.n] = peg;
-    with_disc(&mut b.lengths, b.n, peg);
-    b.n += 1;
-    Ok(b)
+    // The builder with one disc more.
+    #[tactic(auto, using(crate::proofs::Calls::add_accepted, crate::proofs::Calls::add_grows), unfolding(crate::specs::Answer::with_disc))]
+    fn added(mut self, peg: u8) -> Result<Builder, Refusal>
+        ensures { reply_of result ≡ made_by_add self peg }
+    {
+        self.add_verdict(peg)?;
+        self.position[self.n] = peg;
+        with_disc(&mut self.lengths, self.n, peg);
+        self.n += 1;
+        Ok(self)
+    }
+
+    // The first fault of a removal.
+    #[tactic(auto, using(std::proofs::lemmas::Bool::Decides::nat_tests), unfolding(crate::specs::Answer::remove_answer))]
+    fn remove_verdict(&self) -> Result<(), Refusal>
+        ensures { reply_of result ≡ remove_answer self.now }
+    {
+        if !self.is_sound() {
+            return Err(Refusal::UnsoundRecord);
+        }
+        if self.n == 0 {
+            return Err(Refusal::EmptyTower);
+        }
+        Ok(())
+    }
+
+    // The builder with its largest disc gone.
+    #[tactic(auto, using(crate::proofs::Calls::remove_accepted, crate::proofs::Holding::sound_shrinks), unfolding(crate::specs::Answer::without_disc))]
+    fn removed(mut self) -> Result<Builder, Refusal>
+        ensures { reply_of result ≡ made_by_remove self }
+    {
+        self.remove_verdict()?;
+        self.n -= 1;
+        let peg = self.position[self.n];
+        self.position[self.n] = 0;
+        without_disc(&mut self.lengths, self.n, peg);
+        Ok(self)
+    }
 }
 
 // Add: a new largest disc on a peg. Refuses with 10, 2 and 3, and the builder is then as it was.
@@ -65,34 +93,7 @@ fn added(mut b: Builder, peg: u8) -> Result<Builder, Refusal>
 pub fn add(builder: Builder, peg: u8) -> Built
     ensures { (reply_of result.verdict ≡ add_answer builder peg) × (result.builder ≡ add_leaves builder peg) }
 {
-    Built::of(builder, added(builder, peg))
-}
-
-// The first fault of a removal.
-#[tactic(auto, using(std::proofs::lemmas::Bool::Decides::nat_tests), unfolding(crate::specs::Answer::remove_answer))]
-fn remove_verdict(b: Builder) -> Result<(), Refusal>
-    ensures { reply_of result ≡ remove_answer b }
-{
-    if !is_sound(b) {
-        return Err(Refusal::UnsoundRecord);
-    }
-    if b.n == 0 {
-        return Err(Refusal::EmptyTower);
-    }
-    Ok(())
-}
-
-// The builder with its largest disc gone.
-#[tactic(auto, using(crate::proofs::Calls::remove_accepted, crate::proofs::Holding::sound_shrinks), unfolding(crate::specs::Answer::without_disc))]
-fn removed(mut b: Builder) -> Result<Builder, Refusal>
-    ensures { reply_of result ≡ made_by_remove b }
-{
-    remove_verdict(b)?;
-    b.n -= 1;
-    let peg = b.position[b.n];
-    b.position[b.n] = 0;
-    without_disc(&mut b.lengths, b.n, peg);
-    Ok(b)
+    Built::of(builder, builder.added(peg))
 }
 
 // Remove: the largest disc is taken out. Refuses with 10 and 19, and the builder is then as it was.
@@ -100,5 +101,5 @@ fn removed(mut b: Builder) -> Result<Builder, Refusal>
 pub fn remove(builder: Builder) -> Built
     ensures { (reply_of result.verdict ≡ remove_answer builder) × (result.builder ≡ remove_leaves builder) }
 {
-    Built::of(builder, removed(builder))
+    Built::of(builder, builder.removed())
 }

@@ -8,6 +8,7 @@ ghost use Rattle.builder.specs.Lengths.{gathers, lengths_with, lengths_without};
 use board::LIMIT;
 
 // The lengths of d discs, once disc d + 1 stands on `peg`. That peg keeps its length; the other two exchange theirs, and each is 2^d more.
+#[tactic(auto, using(plan::proofs::Fits::shl_power, crate::proofs::Gathers::exchanged_with))]
 pub fn with_disc(lengths: &mut [u64; 3], d: usize, peg: u8)
     requires { Grows lengths.old d peg }
     ensures { lengths.new ≡ lengths_with lengths.old d peg }
@@ -15,13 +16,12 @@ pub fn with_disc(lengths: &mut [u64; 3], d: usize, peg: u8)
     let i = ((peg + 1) % 3) as usize;
     let k = ((peg + 2) % 3) as usize;
     let far = 1 << d;
-    lengths.swap(i, k);
-    lengths[i] += far;
-    lengths[k] += far;
+    (lengths[i], lengths[k]) = (lengths[k] + far, lengths[i] + far);
 }
 
 // The lengths of d discs, from those with disc d + 1 on `peg`: the same read backwards.
-// Stays: no plainer as one with `with_disc`, where a flag or a sum that wraps would stand for + and -.
+// Stays: no plainer as one with `with_disc`, where a flag, a sum that wraps or a closure with a clause of its own would stand for + and -.
+#[tactic(auto, using(plan::proofs::Fits::shl_power, crate::proofs::Gathers::exchanged_without))]
 pub fn without_disc(lengths: &mut [u64; 3], d: usize, peg: u8)
     requires { Shrinks lengths.old d peg }
     ensures { lengths.new ≡ lengths_without lengths.old d peg }
@@ -29,12 +29,11 @@ pub fn without_disc(lengths: &mut [u64; 3], d: usize, peg: u8)
     let i = ((peg + 1) % 3) as usize;
     let k = ((peg + 2) % 3) as usize;
     let far = 1 << d;
-    lengths.swap(i, k);
-    lengths[i] -= far;
-    lengths[k] -= far;
+    (lengths[i], lengths[k]) = (lengths[k] - far, lengths[i] - far);
 }
 
 // The lengths of n discs, from the smallest disc up.
+#[tactic(auto, using(crate::proofs::Gathers::gathers_none, crate::proofs::Gathers::gathers_next, crate::proofs::Gathers::next_grows))]
 pub fn lengths_of(n: usize, position: [u8; LIMIT]) -> [u64; 3]
     requires n_le_limit { n ≤ limit }
     requires well_formed { WellFormed (take n position) }

@@ -1,6 +1,6 @@
 // Towers of 60 discs: after each disc added and after each removed the lengths are compared with Gather's.
 use crate::gathers::as_gather;
-use crate::say;
+use crate::say::Shown;
 use builder::{Builder, Built, add, empty, remove};
 use std::io;
 
@@ -29,11 +29,9 @@ pub fn changes<F: Fn(Builder, u8) -> Built + Drop>(
 // Up from no discs, and down again.
 fn tower(rt: &impl Print, digits: &[u8]) -> io::Result<()> {
     let whole = changes(rt, empty(), digits, |b, peg| add(b, peg))?;
-    say::builder(rt, &whole)?;
-    println!(rt)?;
+    println!(rt; "{}", Shown(&whole))?;
     let none = changes(rt, whole, digits, |b, _| remove(b))?;
-    say::builder(rt, &none)?;
-    println!(rt)
+    println!(rt; "{}", Shown(&none))
 }
 
 // All discs on C; round the pegs; and anywhere.

@@ -18,7 +18,10 @@ use Rattle.board.proofs.Replies.{then_answered}
 use Rattle.board.proofs.Search.{same_refl, same_apart}
 use Rattle.board.proofs.Tasks.{task_accepted, task_obeys}
 use Rattle.plan.specs.Inner.Sound.{Ends}
-use Rattle.plan.specs.Plan.{plan_of, routes}
+use Rattle.plan.specs.Plan.{plan_of, routes, shortest}
+use Rattle.plan.specs.Inner.Read.{read_answer}
+use Rattle.plan.specs.declared.answer.Plan.{Plan}
+use Rattle.plan.proofs.Calls.{read_ends}
 use Rattle.plan.proofs.Optimal.{fewest_shortest, fewest_is}
 use Rattle.plan.proofs.Sound.{task_ends}
 use Rattle.route.specs.Answer.{count_of, task_route, letters}
@@ -30,6 +33,7 @@ use Rattle.route.proofs.Shortest.Routes.{route_leads, route_only}
 use Rattle.checker.specs.Answer.{letters_check, route_number, checker_answer}
 use Rattle.checker.specs.Faults.{NotShortest, letters_faults, checker_faults}
 use Rattle.checker.specs.Letters.{all_letters}
+use Rattle.checker.specs.Inner.Ours.{OneOfOurs}
 use Rattle.checker.specs.Request7.{ShortestRoute}
 use Rattle.checker.proofs.Moves.{illegal_exactly, leads_clear, leads_stable, shortest_exactly}
 use Rattle.checker.proofs.Pairs.{unpaired_exactly, paired, paired_even, moves_length, read_back, letters_end, leads_letters}
@@ -89,6 +93,17 @@ module _ (s g l : List ℕ) where
       (r.fewest_moves ∙ fewest_shortest s g ends.same ends.start_formed ends.goal_formed) in
       let (even, all) = paired_even l r.paired in
       (k, there, read_back l (route_of s g k) even all same)
+
+-- The moves of its plan are the fewest between two ends.
+pub planned_fewest : {s g : List ℕ} {p : Plan} {n : ℕ} → Ends s g → p ≡ plan_of s g → n ≡ shortest p → n ≡ fewest s g
+planned_fewest ends plan moves = rw (moves, plan) (sym (fewest_shortest _ _ ends.same ends.start_formed ends.goal_formed))
+
+-- Letters without fault between the ends of a task that is read are those of one of our routes.
+pub passed_ours : (t l : List ℕ) {s g : List ℕ} → Ends s g → answer (s, g) ≡ read_answer t → pass ≡ letters_check s g l → OneOfOurs t l
+passed_ours t l {s} {g} ends read passed =
+    let o = read_ends t read in
+    let (r, there, same) = rw (o.from, o.to) at (shortest_ours s g l ends (letters_passed s g l ends (sym passed))) in
+    record { accepted = o.accepted; route = r; there = there; same = same }
 
 -- The letters of our routes are shortest routes.
 ours_shortest : (s g : List ℕ) → Ends s g → (r : ℕ) → r < routes (plan_of s g) → ShortestRoute s g (letters (route_of s g r))

@@ -11,12 +11,15 @@ use lib.Dec.{eqb}
 use lib.ListN.{length, get_or, drop}
 use lib.Seq.{drop-cons}
 use Rattle.std.specs.List.{starts_with}
+use Rattle.std.specs.Prelude.{Result, Ok, Err}
+use Rattle.std.specs.Result.{IsOk}
 use Rattle.board.specs.Fewest.{same}
 use Rattle.board.specs.Move.{Move, top}
 use Rattle.board.specs.Peg.{third}
 use Rattle.board.specs.Position.{peg, WellFormed}
-use Rattle.board.specs.Reply.{refused, answer, pass}
+use Rattle.board.specs.Reply.{answer, pass}
 use Rattle.board.specs.Task.{start, goal, task_check}
+use Rattle.board.specs.declared.refusal.Refusal.{Refusal}
 use Rattle.board.proofs.Formed.{formed_pegs}
 use Rattle.board.proofs.Pegs.{third_peg}
 use Rattle.board.proofs.Replies.{refused_answer, answer_same}
@@ -24,9 +27,10 @@ use Rattle.board.proofs.Search.{same_refl, same_apart}
 use Rattle.plan.specs.Plan.{plan_of, routes}
 use Rattle.plan.proofs.Gathering.{Pegs}
 use Rattle.plan.proofs.Three.{three}
-use Rattle.route.specs.Answer.{length_of, count_of, task_route, letter, letters, move_answer}
+use Rattle.route.specs.Answer.{length_of, count_of, task_route, letter, letters, move_reply, move_answer}
 use Rattle.route.specs.Route.{carry, plain, gathering, direct_route, detour_route, route_by, route_of, move_at, after}
 use Rattle.route.specs.declared.answer.DiscMove.{DiscMove}
+use Rattle.route.specs.declared.part.Part.{Part}
 use Rattle.route.proofs.Calls.Answers.{route_length, route_pegs, move_accepts, move_disc}
 use Rattle.route.proofs.Calls.Opened.{Routed, accepted_routed}
 use Rattle.route.proofs.Gatherings.FirstMove.{first_append, gathering_first_home, gathering_first_away}
@@ -188,8 +192,11 @@ first_answered : (t : List ℕ) → task_check t ≡ pass → count_of t ≢ 1 �
 first_answered t accepted tie =
     let two = two_routes t tie in move_accepts t 0 (routed t accepted two 0 (omega arith)) 0 (tie_moves t accepted two)
 
-pub first_there : (t : List ℕ) → task_check t ≡ pass → count_of t ≢ 1 → {k : ℕ} → refused k ≡ move_answer t 0 0 → ⊥
-first_there t accepted tie e = refused_answer (e ∙ first_answered t accepted tie)
+-- So it does not refuse.
+pub first_there : (t l : List ℕ) → OneOfOurs t l → {n : ℕ} → n ≡ count_of t → n ≢ 1 → (r : Result (DiscMove × Part) Refusal)
+    → move_reply r ≡ move_answer t 0 0 → IsOk r
+first_there t l ours count tie (Ok (m, a)) e = refl
+first_there t l ours count tie (Err r) e = absurd (refused_answer (e ∙ first_answered t ours.accepted (λ one. tie (count ∙ one))))
 
 -- What the first move of route 0 tells of letters: they begin with it exactly where they are those of route 0.
 pub record Told (t l : List ℕ) (m : DiscMove) : Type 0 where

@@ -9,6 +9,7 @@ use native.Mathlib.Omega.{arith}
 use borrow.Author.Tests.{eqb-true, eq-eqb, ne_eqb, ltb-true, lt-ltb, not-true}
 use lib.Dec.{eqb, ltb}
 use lib.ListN.{length, get_or, take, drop, drop_of_length-le}
+use lib.Seq.{drop-cons}
 use Rattle.board.specs.Move.{Move, Leads, next}
 use Rattle.board.proofs.Obeys.{either}
 use Rattle.route.specs.Answer.{letter, letters}
@@ -75,6 +76,11 @@ unfolding letter_of
 letter_second [] some = absurd (omega arith)
 letter_second (b ∷ []) some = absurd (omega arith)
 letter_second (b ∷ c ∷ p) some = refl
+
+-- The test from byte i on is the test of that byte and of those after it.
+pub letters_from_lem : (l : List ℕ) (i : ℕ) → i < length l → all_letters (drop i l) ≡ (is_letter (get_or l i 0) && all_letters (drop (suc i) l))
+unfolding all_letters
+letters_from_lem l i h = ap all_letters (drop-cons l i 0 h)
 
 -- Where no byte is left it passes.
 pub letters_end : (l : List ℕ) (i : ℕ) → length l ≤ i → all_letters (drop i l) ≡ true

@@ -83,6 +83,15 @@ pair_entry (a ∷ b ∷ l) zero i h few = absurd (omega arith)
 pair_entry (a ∷ b ∷ l) (suc k) zero h few = refl
 pair_entry (a ∷ b ∷ l) (suc k) (suc i) h few = pair_entry l k i (omega arith) (omega arith)
 
+-- Its first byte is one of the list's.
+pub pair_byte : (l : List ℕ) (k i : ℕ) → i < k → k ≤ length l / 2 → ((j : ℕ) → get_or l j 0 < 256)
+    → get_or (get_or (first_chunks 2 k l) i []) 0 0 < 256
+pair_byte [] k i h few bytes = absurd (omega arith)
+pair_byte (a ∷ []) k i h few bytes = absurd (omega arith)
+pair_byte (a ∷ b ∷ l) zero i h few bytes = absurd (omega arith)
+pair_byte (a ∷ b ∷ l) (suc k) zero h few bytes = bytes 0
+pair_byte (a ∷ b ∷ l) (suc k) (suc i) h few bytes = pair_byte l k i (omega arith) (omega arith) (λ j. bytes (suc (suc j)))
+
 -- The place of a letter's peg among the three is what is above A.
 pub place_peg : (x : ℕ) → read_peg x < 3 → x - 65 ≡ read_peg x
 place_peg x h = omega (arith, letter_peg x h)

@@ -140,3 +140,6 @@ module _ {k : Discs} (p q : List ℕ) (kept : Kept k p) where
           taken_same (drop 1 q) (drop 1 p) k.larger.top k.larger.beneath 0 sizes (formed_drop 1 q (formed_tail i q formed)) held
           ∙ sym (same_after p q (omega arith) f)
           ∙ sym (unfold same in rw (eq-eqb j i e))
+
+-- How the discs of a goal are compared.
+pub ruleset stands = (larger_part, larger_fits, kept_apart, kept_second, kept_taken)

@@ -142,3 +142,6 @@ module _ {s : List ℕ} {ms : List Move} {i : ℕ} {k : Discs} (some : 0 < lengt
       → now ≡ k → ((p : List ℕ) → Kept now p → length p ≡ length g → there ≡ same p g) → Walks s ms g (record { made = i; there = there })
   walking_ends g there few stop size is compared =
       record { few = few; position = w.position; leads = w.leads; stops = stop; arrives = compared w.position (rw is w.kept) (here_size ∙ size) }
+
+-- How a walk goes on and ends.
+pub ruleset walking = (walk_none, walking_begins, walking_tops, walking_on, walking_stops, walking_ends)

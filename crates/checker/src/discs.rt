@@ -2,13 +2,13 @@
 // ones: a move of disc 1 or 2 changes one number, any other move three.
 ghost use Rattle.std.specs.Prelude.{List, ◌≡◌, ℕ, ◌+◌, ◌<◌, ◌≤◌, cond, min, length, drop};
 ghost use Rattle.board.specs.Fewest.{same};
-ghost use Rattle.board.specs.Position.{WellFormed};
 ghost use Rattle.board.specs.Task.{limit};
 ghost use Rattle.checker.specs.Inner.Walk.{letter_of, Kept, may_move, made};
 ghost use Rattle.run.specs.Inner.Pegs.{disc_on};
 
-use crate::letters::{is_letter, wide};
+use crate::letters::{A, is_letter};
 use crate::taking::take_off;
+use plan::Task;
 use run::pegs::Pegs;
 
 // The letters of the pegs of discs 1 and 2, the second one NONE where there is no disc 2, and the pegs of the larger discs.
@@ -20,7 +20,7 @@ pub struct Discs {
 }
 
 // No letter: more than any byte is.
-// Stays: with an Option the walk was a tenth slower.
+// Stays: tried, with an `Option` the walk was a tenth slower, and no longer ahead of `hinz_check`, the bar (docs/CHANGES.md, 14).
 const NONE: usize = 256;
 
 // How many discs are known by their letters: the two smallest, or as many as there are.
@@ -35,24 +35,24 @@ fn apart(n: usize) -> usize
 fn second_letter(position: &[u8]) -> usize
     ensures { result ≡ letter_of (drop 1 position.now) }
 {
-    if position.len() < 2 {
-        NONE
-    } else {
-        wide(position[1]) + 65
+    match position {
+        [_, second, ..] => A + *second as usize,
+        _ => NONE,
     }
 }
 
 impl Discs {
-    // The discs of a position.
-    #[tactic(auto, using(board::proofs::Formed::formed_drop))]
-    pub fn of(position: &[u8]) -> Discs
-        requires { (0 < length position.now) × (length position.now ≤ limit) × WellFormed position.now }
-        ensures { Kept result position.now }
+    // The discs at the start of a task that has some.
+    #[tactic(auto, using(crate::proofs::Taken::larger_part, crate::proofs::Taken::larger_fits))]
+    pub fn of(task: &Task) -> Discs
+        requires { 0 < length task.now.start.now }
+        ensures { Kept result task.now.start.now }
     {
+        let start = task.start;
         Discs {
-            small: wide(position[0]) + 65,
-            second: second_letter(position),
-            larger: Pegs::of(&position[apart(position.len())..]),
+            small: A + start[0] as usize,
+            second: second_letter(start),
+            larger: Pegs::of(&start[apart(start.len())..]),
         }
     }
 
@@ -78,19 +78,21 @@ impl Discs {
             self.second = to;
             return true;
         }
-        if !is_letter(from) || self.larger.top[to - 65] <= self.larger.top[from - 65] {
+        if !is_letter(from) || self.larger.top[to - A] <= self.larger.top[from - A] {
             return false;
         }
-        self.larger.carry(from - 65, to - 65);
+        self.larger.carry(from - A, to - A);
         true
     }
 
-    // Whether they stand as in the goal.
-    pub fn stand(&self, goal: &[u8]) -> bool
-        requires { (0 < length goal.now) × (length goal.now ≤ limit) × WellFormed goal.now }
-        ensures { (p : List ℕ) → Kept self.now p → length p ≡ length goal.now → result ≡ same p goal.now }
+    // Whether they stand as in the goal of a task that has some.
+    #[tactic(auto, using(std::proofs::lemmas::Bool::Decides::nat_tests, crate::proofs::Taken::stands))]
+    pub fn stand(&self, task: &Task) -> bool
+        requires { 0 < length task.now.goal.now }
+        ensures { (p : List ℕ) → Kept self.now p → length p ≡ length task.now.goal.now → result ≡ same p task.now.goal.now }
     {
-        self.small == wide(goal[0]) + 65
+        let goal = task.goal;
+        self.small == A + goal[0] as usize
             && self.second == second_letter(goal)
             && take_off(&self.larger, &goal[apart(goal.len())..])
     }

@@ -7,7 +7,8 @@ ghost use Rattle.checker.specs.Inner.Stacks.{taken_off};
 use run::pegs::Pegs;
 
 // Whether the pegs are those of a position: its discs are taken off one by one, the smallest first, each from its peg.
-#[tactic(auto, using(board::proofs::Formed::formed_pegs))]
+// Stays: the clause and no `Task`, which would be no plainer: the position is a part of a task's goal.
+#[tactic(auto, using(board::proofs::Formed::formed_pegs, crate::proofs::Taken::taken_past, crate::proofs::Taken::taken_fails, crate::proofs::Taken::taken_end))]
 pub fn take_off(pegs: &Pegs, position: &[u8]) -> bool
     requires { (length position.now ≤ limit) × WellFormed position.now }
     ensures { result ≡ taken_off pegs.now.top pegs.now.beneath 0 position.now }

@@ -9,8 +9,8 @@ use crate::walking::{Walked, walk};
 use board::Refusal;
 use plan::Task;
 
-// The first fault of letter pairs between two positions so many moves apart, in one pass: the walk reads the letters up to the first pair that is
-// no legal move, and from there on they are only asked for being letters.
+// The first fault of letter pairs between two positions so many moves apart, in one pass: the walk reads the letters up to the first pair
+// that is no legal move, and from there on they are only asked for being letters.
 pub fn letters_verdict(task: &Task, shortest: u64, letters: &[u8]) -> Result<(), Refusal>
     requires { shortest ≡ fewest task.now.start.now task.now.goal.now }
     ensures { reply_of result ≡ letters_check task.now.start.now task.now.goal.now letters.now }

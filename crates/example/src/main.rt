@@ -5,6 +5,7 @@ mod own;
 
 use board::Refusal;
 use session::{Mark, Session};
+use show::Answer;
 use std::io;
 
 fn main(rt: HostRuntime) -> io::Result<()> {
@@ -43,8 +44,7 @@ fn plays(rt: &impl Print, mut record: Session) -> io::Result<()> {
 
 // Toward, level or away, or refused with 8 where the peg is empty.
 fn answer(rt: &impl Print, mark: Result<Mark, Refusal>) -> io::Result<()> {
-    show::answer(rt, &mark)?;
-    println!(rt)
+    println!(rt; "{}", Answer(mark))
 }
 
 fn report(rt: &impl Print, record: Session) -> io::Result<()> {

@@ -10,13 +10,11 @@ ghost use Rattle.session.specs.Sessions.{record_after, calls_from};
 use board::LIMIT;
 
 // Of a task without faults, the fewest moves; of any other the contract says nothing.
+#[tactic(auto, using(plan::proofs::Calls::plan_accepts, plan::proofs::Calls::plan_fewest, board::proofs::Replies::refused_answer))]
 pub fn fewest_of(task: &[u8]) -> u64
     ensures { Faultless (task_faults task.now) → result ≡ fewest (start task.now) (goal task.now) }
 {
-    match plan::plan(task) {
-        Ok(plan) => plan.shortest(),
-        Err(_) => 0,
-    }
+    plan::plan(task).map_or(0, |plan| plan.shortest())
 }
 
 // Whether Locate gives back the index of a position that Place writes. Where Place is refused there is none to give back.
@@ -26,10 +24,9 @@ pub fn leads_back(task: &[u8], route: u64, index: u64) -> bool
     let mut pegs = [0; LIMIT];
     match route::place(task, route, index, &mut pegs) {
         Err(_) => true,
-        Ok(()) => match route::locate(task, &pegs[..task.len() / 2]) {
-            Ok(Some(found)) => found.index == index,
-            Ok(None) => false,
-            Err(_) => false,
+        Ok(()) => {
+            let position = &pegs[..task.len() / 2];
+            route::locate(task, position).is_ok_and(|at| at.is_some_and(|on| on.index == index))
         },
     }
 }
@@ -39,8 +36,5 @@ pub fn remaining_after(task: &[u8], plays: &[u8]) -> u64
     ensures { Faultless (task_faults task.now) → result ≡ fewest (current_of (record_after (opened task.now) (calls_from plays.now))) (goal task.now) }
 {
     let begun = session::begin(task);
-    match session::report(session::replay(begun.session, plays)) {
-        Ok(figures) => figures.remaining,
-        Err(_) => 0,
-    }
+    session::report(session::replay(begun.session, plays)).map_or(0, |figures| figures.remaining)
 }

@@ -2,6 +2,7 @@
 // the refusal.
 #![tactic(auto)]
 
+use show::Answer;
 use std::io;
 
 fn main(rt: HostRuntime) -> io::Result<()> {
@@ -13,7 +14,5 @@ fn main(rt: HostRuntime) -> io::Result<()> {
 
 // The line of a size.
 fn line(rt: &impl Print, n: u64) -> io::Result<()> {
-    print!(rt; "{n} discs: ")?;
-    show::answer(rt, &averages::totals(n))?;
-    println!(rt)
+    println!(rt; "{n} discs: {}", Answer(averages::totals(n)))
 }

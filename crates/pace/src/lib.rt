@@ -1,4 +1,5 @@
 // Calls that C does not get, exported one by one for `make bench` to time. This library is not installed.
+// Stays: 0 for a refusal, since a call from C answers one number.
 // What C owes: behind each pointer as many bytes as the length after it says, and an `out` that shares no byte with `task`.
 #![tactic(auto)]
 
@@ -56,8 +57,8 @@ pub extern "C" fn pace_locate(task: &[u8], position: &[u8]) -> u64
     ensures { result ≡ counted (index_found task.now position.now) }
 {
     match route::locate(task, position) {
-        Ok(Some(Located { index, route })) => if route == 0 { index } else { 0 },
-        Ok(None) | Err(_) => 0,
+        Ok(Some(Located { index, route: 0 })) => index,
+        _ => 0,
     }
 }
 

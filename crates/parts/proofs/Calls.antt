@@ -9,11 +9,12 @@ use Rattle.board.specs.Reply.{refused, answer}
 use Rattle.board.specs.Task.{start, goal}
 use Rattle.board.proofs.Replies.{then_answered}
 use Rattle.route.specs.Answer.{length_of}
-use Rattle.route.specs.Inner.Open.{list_check, list_answer}
+use Rattle.route.specs.Inner.Open.{Opening, list_check, list_answer}
+use Rattle.plan.specs.Plan.{shortest}
 use Rattle.route.specs.Part.{part_letter, parts_of}
 use Rattle.route.proofs.Annotated.{parts_long}
 use Rattle.route.proofs.Calls.Answers.{joined_size}
-use Rattle.route.proofs.Calls.Lists.{Listed, list_first, list_answer_obeys, list_passed, list_passes, list_refused}
+use Rattle.route.proofs.Calls.Lists.{Listed, list_first, list_answer_obeys, list_passed, list_passes, list_opened, list_refused}
 use Rattle.route.proofs.Calls.Opened.{Routed}
 use Rattle.parts.specs.Answer.{parts_answer, parts_writes}
 use Rattle.parts.specs.Faults.{parts_faults}
@@ -66,3 +67,18 @@ parts_answered t r i out {k} e =
       wrote = rw (e, size);
       sized = rw (e, size) (joined_size (map part_letter (take k (drop i parts))) out k size room);
     }
+
+module _ (t : List ℕ) (r i : ℕ) (out : List ℕ) where
+  -- What cannot be opened for the list is refused, and the buffer is as it stood.
+  pub unlisted : {k : ℕ} → refused k ≡ list_answer t r i (length out) 1 → (refused k ≡ parts_answer t r i out) × (out ≡ parts_writes t r i out)
+  unlisted e = let no = parts_refuses t r i out e in (sym no, sym (parts_kept t r i out no))
+
+  -- What is opened for it has as many letters, and they are written.
+  pub listed : {o : Opening} → answer o ≡ list_answer t r i (length out) 1
+      → (answer (min (shortest o.plan - i) (length out)) ≡ parts_answer t r i out)
+      × (map part_letter (take (min (shortest o.plan - i) (length out)) (drop i (parts_of o.start o.goal o.route)))
+      ++ drop (min (shortest o.plan - i) (length out)) out ≡ parts_writes t r i out)
+  listed e =
+      let o = list_opened t r i (length out) 1 e in
+      let yes = parts_accepts t r i out o.listed in
+      rw (o.plan, o.from, o.to, o.route) (sym yes, sym (parts_answered t r i out yes).wrote)

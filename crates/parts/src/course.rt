@@ -10,6 +10,7 @@ use route::count::lesser;
 use route::course::Course;
 
 // The stretches of a course of so many moves: a direct course has no shift and no second crossing, and the spreading is what is left.
+#[tactic(auto, using(crate::proofs::Stretches::counted_course))]
 fn stretches(course: Course, moves: u64) -> [(Part, u64); 5]
     requires disc_le_limit { course.disc ≤ limit }
     requires course_bound { spreads_from course ≤ moves }
@@ -31,6 +32,7 @@ fn stretches(course: Course, moves: u64) -> [(Part, u64); 5]
 }
 
 // Writes the letters of a course of so many moves from an index on, as many as remain or fit, and answers how many.
+#[tactic(auto, using(crate::proofs::Stretches::counted_length, crate::proofs::Written::counted_bound, crate::proofs::Written::written_none), unfolding(crate::specs::Inner::Course::counted_parts))]
 pub fn write_course(course: Course, moves: u64, first: u64, out: &mut [u8]) -> usize
     requires disc_le_limit { course.disc ≤ limit }
     requires course_bound { spreads_from course ≤ moves }

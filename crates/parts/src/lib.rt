@@ -11,11 +11,11 @@ ghost use Rattle.parts.specs.Answer.{parts_answer, parts_writes};
 
 use board::Refusal;
 use route::Opened;
-use route::course::Course;
 use route::opening::open_list;
 
 // Parts: writes the letters of the parts of a shortest route from an index on, a byte a move, as many as remain or fit, and answers how
 // many. Refuses with the task faults, 4, 5 and 6, and then writes nothing.
+#[tactic(auto, using(board::proofs::Replies::goes_up, crate::proofs::Calls::unlisted, route::proofs::Calls::Lists::list_opened))]
 pub fn parts(task: &[u8], route: u64, first: u64, out: &mut [u8]) -> Result<usize, Refusal>
     ensures result_value { reply_of result ≡ parts_answer task.now route first out.old }
     ensures out_after { out.new ≡ parts_writes task.now route first out.old }
@@ -25,6 +25,7 @@ pub fn parts(task: &[u8], route: u64, first: u64, out: &mut [u8]) -> Result<usiz
 }
 
 // Writes the letters of a route from an index on, as many as remain or fit, and answers how many.
+#[tactic(auto, using(route::proofs::Calls::Routes::opened_course, crate::proofs::Stretches::opened_bound, crate::proofs::Stretches::opened_parts))]
 fn parts_from(opened: &Opened, first: u64, out: &mut [u8]) -> usize
     requires { first ≤ shortest opened.now.plan }
     ensures value { result ≡ min (shortest opened.now.plan - first) (length out.old) }
@@ -33,6 +34,5 @@ fn parts_from(opened: &Opened, first: u64, out: &mut [u8]) -> usize
     if opened.plan.largest == 0 {
         return 0;
     }
-    let course = Course::of(&opened.task, opened.plan, opened.route);
-    course::write_course(course, opened.plan.shortest(), first, out)
+    course::write_course(opened.course(), opened.plan.shortest(), first, out)
 }

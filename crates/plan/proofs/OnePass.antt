@@ -7,8 +7,9 @@ use mathlib.Core.Logic.{◌≢◌}
 use native.Mathlib.Nat.{add-mul, mul_assoc, mul_left_comm, mul-le-mul_left, mul-one, one-mul, zero-mul, pow-succ'}
 use native.Mathlib.Omega.{arith}
 use lib.Dec.{eqb}
-use lib.ListN.{length}
+use lib.ListN.{length, get_or, set}
 use lib.Pow.{pow_pos}
+use lib.Seq.{get_or-set_other}
 use mir.Val.{bool_byte}
 use Rattle.board.specs.Peg.{third}
 use Rattle.board.specs.Position.{peg}
@@ -32,6 +33,14 @@ next s k j = third j (peg s (k - 1))
 -- A plan's sum after disc k.
 abbrev pub passed : List ℕ → List ℕ → ℕ → ℕ → ℕ → ℕ → ℕ
 passed s t k i j sum = 2 * sum + off s k i + off t k j
+
+-- A sum with room for k discs is at most 2 ^ 63 − 2.
+pub room_now : (sum k : ℕ) → (sum + 2) * 2 ^ k ≤ 2 ^ 63 → sum + 2 ≤ 2 ^ 63
+room_now sum k room = omega (arith, mul-le-mul_left (sum + 2) (pow_pos k), mul-one (sum + 2))
+
+-- A store to the first of two sums keeps the second.
+pub second_kept : (sums : List ℕ) (v : ℕ) → get_or (set sums 0 v) 1 0 ≡ get_or sums 1 0
+second_kept sums v = get_or-set_other sums 0 1 v 0 (omega arith)
 
 -- A test times a power is the power where the test fails.
 byte_times : (on : Bool) (w : ℕ) → bool_byte (not on) * w ≡ cond on 0 w

@@ -5,5 +5,6 @@ pub mod Tower
 pub mod Answer
 pub mod Faults
 pub mod Stacks
+pub mod Printed
 -- What our own functions promise each other.
 pub mod Inner

@@ -1,7 +1,9 @@
 // A plan.
-ghost use Rattle.std.specs.Prelude.{◌≡◌};
+ghost use Rattle.std.specs.Prelude.{◌≡◌, Some};
 ghost use Rattle.plan.specs.Plan.{way_of, shortest as shortest_of, routes as routes_of};
+ghost use Rattle.plan.specs.Printed.{lengths_text, way_text, plan_text};
 
+use std::cmp::Ordering;
 use std::fmt;
 
 // The lengths of the one-move and of the two-move plan.
@@ -22,6 +24,7 @@ pub enum Way {
 
 // A plan: the number of discs, the largest disc that moves with the pegs that it leaves and reaches (all 0 where none moves), and
 // the way.
+// Stays: 0 and no `Option` where no disc moves, as `plan_by` of specs/Plan has it.
 #[derive(Clone, Copy, Debug, PartialEq, Eq)]
 pub struct Plan {
     pub discs: usize,
@@ -33,16 +36,15 @@ pub struct Plan {
 
 impl Way {
     // The shorter of the two, or a tie.
+    #[tactic(auto, using(std::proofs::lemmas::Bool::Decides::nat_tests), unfolding(crate::specs::Plan::way_of))]
     pub fn of(lengths: Lengths) -> Way
         ensures { result ≡ way_of lengths }
     {
-        if lengths.direct < lengths.detour {
-            return Way::Direct(lengths);
+        match lengths.direct.cmp(&lengths.detour) {
+            Ordering::Less => Way::Direct(lengths),
+            Ordering::Greater => Way::Detour(lengths),
+            Ordering::Equal => Way::Tie(lengths),
         }
-        if lengths.detour < lengths.direct {
-            return Way::Detour(lengths);
-        }
-        Way::Tie(lengths)
     }
 }
 
@@ -51,12 +53,10 @@ impl Plan {
     pub fn shortest(self) -> u64
         ensures { result ≡ shortest_of self }
     {
-        let way = self.way;
-        match way {
+        match self.way {
             Way::Still => 0,
-            Way::Direct(lengths) => lengths.direct,
+            Way::Direct(lengths) | Way::Tie(lengths) => lengths.direct,
             Way::Detour(lengths) => lengths.detour,
-            Way::Tie(lengths) => lengths.direct,
         }
     }
 
@@ -64,11 +64,8 @@ impl Plan {
     pub fn routes(self) -> u64
         ensures { result ≡ routes_of self }
     {
-        let way = self.way;
-        match way {
-            Way::Still => 1,
-            Way::Direct(_) => 1,
-            Way::Detour(_) => 1,
+        match self.way {
+            Way::Still | Way::Direct(_) | Way::Detour(_) => 1,
             Way::Tie(_) => 2,
         }
     }
@@ -76,6 +73,8 @@ impl Plan {
 
 // A plan's lengths, as "direct 3 detour 3".
 impl fmt::Display for Lengths {
+    ghost output = { λ lengths. Some (lengths_text lengths) };
+
     fn fmt<W: fmt::Write>(&self, f: &mut fmt::Formatter<W>) -> fmt::Result {
         write!(f, "direct {} detour {}", self.direct, self.detour)
     }
@@ -83,6 +82,8 @@ impl fmt::Display for Lengths {
 
 // Its word and its lengths, as "tie: direct 3 detour 3"; or "still".
 impl fmt::Display for Way {
+    ghost output = { λ way. Some (way_text way) };
+
     fn fmt<W: fmt::Write>(&self, f: &mut fmt::Formatter<W>) -> fmt::Result {
         match self {
             Way::Still => write!(f, "still"),
@@ -95,6 +96,8 @@ impl fmt::Display for Way {
 
 // Its way, the fewest moves and how many routes have them.
 impl fmt::Display for Plan {
+    ghost output = { λ plan. Some (plan_text plan) };
+
     fn fmt<W: fmt::Write>(&self, f: &mut fmt::Formatter<W>) -> fmt::Result {
         let shortest = self.shortest();
         let routes = self.routes();

@@ -1,15 +1,15 @@
 // The plan of a task: the largest disc that moves, and the lengths of its two ways across.
 ghost use Rattle.std.specs.Prelude.{◌≡◌, ◌<◌, length};
 ghost use Rattle.board.specs.Position.{peg};
-ghost use Rattle.plan.specs.Inner.Read.{read_reply, read_answer};
+ghost use Rattle.plan.specs.Inner.Sound.{Ends};
 ghost use Rattle.plan.specs.Plan.{largest, lengths_of, plan_of};
 
 use crate::answer::{Lengths, Plan, Way};
 use crate::task::Task;
 use crate::together::Gathers;
-use board::Refusal;
 
 // The largest disc whose pegs differ, or 0.
+// Stays: 0 and no `Option`, as the clause of this public function has it (`largest` of specs/Plan).
 #[tactic(auto, using(crate::proofs::Largest::largest_here, crate::proofs::Largest::largest_less))]
 pub fn largest_moving(start: &[u8], goal: &[u8]) -> usize
     requires { length start.now ≡ length goal.now }
@@ -23,26 +23,7 @@ pub fn largest_moving(start: &[u8], goal: &[u8]) -> usize
     0
 }
 
-impl<'a> Task<'a> {
-    // The task that bytes are. Refuses with the task faults.
-    pub fn read(bytes: &'a [u8]) -> Result<Task<'a>, Refusal>
-        ensures { read_reply result ≡ read_answer bytes.now }
-    {
-        board::task_verdict(bytes)?;
-        let n = bytes.len() / 2;
-        Ok(Task {
-            start: &bytes[..n],
-            goal: &bytes[n..],
-        })
-    }
-
-    // How many discs there are.
-    pub fn discs(&self) -> usize
-        ensures { result ≡ length self.now.start.now }
-    {
-        self.start.len()
-    }
-
+impl Task<'_> {
     // The direct and the detour length of disc k + 1.
     #[tactic(auto, using(crate::proofs::OnePass::one_pass), unfolding(crate::specs::Plan::direct, crate::specs::Plan::detour))]
     fn lengths(&self, k: usize) -> Lengths
@@ -98,4 +79,14 @@ impl<'a> Task<'a> {
             way: Way::of(self.lengths(k)),
         }
     }
+}
+
+// The plan between two positions of one size.
+// Stays: two slices under a clause and no `Task`: a public function, which what may not change keeps.
+pub fn plan_between(start: &[u8], goal: &[u8]) -> Plan
+    requires { Ends start.now goal.now }
+    ensures { result ≡ plan_of start.now goal.now }
+{
+    let task = Task { start, goal };
+    task.plan()
 }

@@ -17,7 +17,7 @@ use board::Refusal;
 pub use task::Task;
 
 // Gather: the fewest moves that stack a position on a peg. Refuses with 2, and with 3 for a byte or the peg.
-#[tactic(auto, using(std::proofs::lemmas::Bool::Decides::nat_tests), unfolding(crate::specs::Answer::gather_answer))]
+#[tactic(auto, using(std::proofs::lemmas::Bool::Decides::nat_tests, board::proofs::Tasks::position_accepted, crate::proofs::Sound::position_gatherable), unfolding(crate::specs::Answer::gather_answer))]
 pub fn gather(position: &[u8], peg: u8) -> Result<u64, Refusal>
     ensures { reply_of result ≡ gather_answer position.now peg }
 {
@@ -30,6 +30,7 @@ pub fn gather(position: &[u8], peg: u8) -> Result<u64, Refusal>
 }
 
 // Plan: the plan of a task. Refuses with the task faults.
+#[tactic(auto, using(board::proofs::Replies::goes_up, crate::proofs::Calls::read_planned, crate::proofs::Calls::read_refused))]
 pub fn plan(task: &[u8]) -> Result<Plan, Refusal>
     ensures { reply_of result ≡ plan_answer task.now }
 {

@@ -1,6 +1,7 @@
 // A line for each play, each report and each record.
+use board::Letter;
 use session::Session;
-use show::Peg;
+use show::{Answer, Record};
 use std::io;
 
 // Whether a play left the record as it was, in every field, or in every field but its fumbles, which are one more.
@@ -19,10 +20,14 @@ fn difference(before: &Session, after: &Session) -> &'static str {
 
 // Makes a play and writes its answer.
 pub fn play(rt: &impl Print, session: &mut Session, from: u8, to: u8) -> io::Result<()> {
-    print!(rt; "play {} to {}: ", Peg(from), Peg(to))?;
     let before = *session;
-    show::answer(rt, &session::play(session, from, to))?;
-    println!(rt; ", {}", difference(&before, session))
+    let mark = Answer(session::play(session, from, to));
+    let difference = difference(&before, session);
+    println!(rt;
+        "play {} to {}: {mark}, {difference}",
+        Letter(from),
+        Letter(to)
+    )
 }
 
 // Makes a list of plays, each a from and a to.
@@ -35,14 +40,10 @@ pub fn plays(rt: &impl Print, session: &mut Session, plays: &[(u8, u8)]) -> io::
 
 // Writes Report's answer.
 pub fn report(rt: &impl Print, session: &Session) -> io::Result<()> {
-    print!(rt; "report: ")?;
-    show::answer(rt, &session::report(*session))?;
-    println!(rt)
+    println!(rt; "report: {}", Answer(session::report(*session)))
 }
 
 // Writes a record.
 pub fn record(rt: &impl Print, session: &Session) -> io::Result<()> {
-    print!(rt; "record: ")?;
-    show::record(rt, session)?;
-    println!(rt)
+    println!(rt; "record: {}", Record(session))
 }

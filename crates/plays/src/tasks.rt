@@ -4,9 +4,7 @@ use std::io;
 
 // Writes Begin's verdict on a task.
 fn verdict(rt: &impl Print, name: &str, task: &[u8]) -> io::Result<()> {
-    print!(rt; "begin on {name}: ")?;
-    show::verdict(rt, begin(task).verdict)?;
-    println!(rt)
+    println!(rt; "begin on {name}: {}", show::verdict(begin(task).verdict))
 }
 
 // The longest task, and one byte more, two bytes more, and a byte that is no peg.

@@ -4,4 +4,5 @@ pub mod Middle
 pub mod Spread
 pub mod Entries
 pub mod Passing
+pub mod Front
 pub mod Towers

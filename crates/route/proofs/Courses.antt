@@ -3,3 +3,4 @@ pub mod Between
 pub mod Stages
 pub mod Found
 pub mod Plan
+pub mod Ways

@@ -1,6 +1,7 @@
 -- The routes of a task, in the order of documents 01 and 02: words to be believed.
 pub mod Route
 pub mod Part
+pub mod Printed
 pub mod Answer
 pub mod Faults
 -- What demands 2 and 3 say of the calls, and request 1 of Move.

@@ -1,4 +1,9 @@
 // What Move and Locate answer.
+ghost use Rattle.std.specs.Prelude.{◌≡◌, Some};
+ghost use Rattle.route.specs.Printed.{move_text, located_text};
+ghost use Rattle.route.specs.Route.{turned};
+
+use board::Letter;
 use std::fmt;
 
 // A move of a route: the disc, the peg it leaves and the peg it goes to.
@@ -9,6 +14,19 @@ pub struct DiscMove {
     pub to: u8,
 }
 
+impl DiscMove {
+    // The move back.
+    pub fn turned(self) -> DiscMove
+        ensures { result ≡ turned self }
+    {
+        DiscMove {
+            disc: self.disc,
+            from: self.to,
+            to: self.from,
+        }
+    }
+}
+
 // Where a position is on the shortest routes: its index, and the lowest number of a route that has it there.
 #[derive(Clone, Copy, Debug, PartialEq, Eq)]
 pub struct Located {
@@ -16,31 +34,25 @@ pub struct Located {
     pub route: u64,
 }
 
-// A peg's letter, and a question mark where there is no such peg.
-fn letter(peg: u8) -> char {
-    match peg {
-        0 => 'A',
-        1 => 'B',
-        2 => 'C',
-        _ => '?',
-    }
-}
-
 // The disc and its pegs' letters, as "disc 2 BC".
 impl fmt::Display for DiscMove {
+    ghost output = { λ step. Some (move_text step) };
+
     fn fmt<W: fmt::Write>(&self, f: &mut fmt::Formatter<W>) -> fmt::Result {
         write!(
             f,
             "disc {} {}{}",
             self.disc,
-            letter(self.from),
-            letter(self.to)
+            Letter(self.from),
+            Letter(self.to)
         )
     }
 }
 
 // The index and the route, as "index 3 route 0".
 impl fmt::Display for Located {
+    ghost output = { λ place. Some (located_text place) };
+
     fn fmt<W: fmt::Write>(&self, f: &mut fmt::Formatter<W>) -> fmt::Result {
         write!(f, "index {} route {}", self.index, self.route)
     }

@@ -2,7 +2,7 @@
 ghost use Rattle.plan.specs.Inner.Sound.{Gatherable};
 
 use crate::answer::DiscMove;
-use crate::passing::pass;
+use crate::passing::{Passed, pass};
 use board::LIMIT;
 
 // The smallest discs of a position, so many, to be stacked on a target.
@@ -22,24 +22,29 @@ impl<'a> Gathering<'a> {
     ghost use Rattle.route.specs.Route.{gathering, move_at};
 
     // The pegs of its discs when so many moves are left.
+    #[tactic(auto, unfolding(crate::specs::Inner::Along::stacked))]
     pub fn pegs_along(&self, left: u64) -> [u8; LIMIT]
         ensures { Along self.now.position.now self.now.discs self.now.target left result }
     {
         let mut pegs: [u8; LIMIT] = [0; LIMIT];
-        let mut goal = self.target;
-        let mut rest = left;
-        let mut tower = None;
+        // As below a larger disc that is on the target.
+        let mut passed = Passed {
+            peg: self.target,
+            goal: self.target,
+            rest: left,
+            tower: None,
+        };
         for m in (0..self.discs).rev() {
-            let passed = pass(self.position, m, goal, rest, tower);
+            passed = pass(self.position, m, passed);
             pegs[m] = passed.peg;
-            goal = passed.goal;
-            rest = passed.rest;
-            tower = passed.tower;
         }
         pegs
     }
 
     // Its first move: the smallest disc that is not on its target goes to it. All 0 where each is on its target.
+    // Stays: all 0, as `move_at` of specs/Route has it past the end of a list; an `Option` would be no plainer, since its caller has a move
+    // left.
+    #[tactic(auto, using(crate::proofs::Gatherings::FirstMove::first_steps))]
     pub fn first_move(&self) -> DiscMove
         ensures { result ≡ move_at (gathering (peg self.now.position.now) self.now.discs self.now.target) 0 }
     {
@@ -65,6 +70,7 @@ impl<'a> Gathering<'a> {
     }
 
     // The first move when so many are left.
+    #[tactic(auto, using(crate::proofs::Along::Front::middle))]
     pub fn move_along(&self, left: u64) -> DiscMove
         ensures { result ≡ first_move_of (along (peg self.now.position.now) self.now.discs self.now.target left) self.now.discs self.now.target }
     {

@@ -1,4 +1,4 @@
-// What Move, Place, Run and Parts begin with: the task faults, and 4 for the route number; and for the list calls 5 and 6.
+// What Move, Place, Run, Parts and Wear begin with: the task faults, and 4 for the route number; and for the list calls 5 and 6.
 ghost use Rattle.std.specs.Prelude.{◌≡◌};
 ghost use Rattle.route.specs.Inner.Open.{opened_reply, open_answer, list_answer};
 
@@ -6,7 +6,8 @@ use crate::opened::Opened;
 use board::Refusal;
 use plan::Task;
 
-// The plan of a task that has a route of that number. Refuses with the task faults and 4.
+// The task opened at a route, where it has one of that number. Refuses with the task faults and 4.
+#[tactic(auto, using(std::proofs::lemmas::Bool::Decides::nat_tests, board::proofs::Replies::goes_up, crate::proofs::Calls::Opened::read_opened), unfolding(crate::specs::Inner::Open::open_answer, crate::specs::Answer::route_check))]
 pub fn open_route(task: &[u8], route: u64) -> Result<Opened<'_>, Refusal>
     ensures { opened_reply result ≡ open_answer task.now route }
 {
@@ -18,8 +19,9 @@ pub fn open_route(task: &[u8], route: u64) -> Result<Opened<'_>, Refusal>
     Ok(Opened { task, plan, route })
 }
 
-// The plan of a task whose route is to be written from an index on into so many bytes, where a move takes `size`. Refuses with the task
+// The task opened at a route that is to be written from an index on into so many bytes, where a move takes `size`. Refuses with the task
 // faults, 4, 5 and 6.
+#[tactic(auto, using(std::proofs::lemmas::Bool::Decides::nat_tests, board::proofs::Replies::goes_up, crate::proofs::Calls::Opened::opens), unfolding(crate::specs::Inner::Open::list_answer, crate::specs::Inner::Open::list_check))]
 pub fn open_list(
     task: &[u8],
     route: u64,

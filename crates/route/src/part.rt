@@ -1,6 +1,7 @@
 // The part of the plan behind a move (document 02, CR 1).
-ghost use Rattle.std.specs.Prelude.{◌≡◌};
+ghost use Rattle.std.specs.Prelude.{◌≡◌, Some};
 ghost use Rattle.route.specs.Part.{part_letter};
+ghost use Rattle.route.specs.Printed.{part_text};
 
 use std::fmt;
 
@@ -15,6 +16,7 @@ pub enum Part {
 
 impl Part {
     // Its letter.
+    // Stays: a match, since as values of the cases the letters would be the numbers 71, 88, 84 and 83, which is no plainer.
     pub fn letter(self) -> u8
         ensures { result ≡ part_letter self }
     {
@@ -29,6 +31,8 @@ impl Part {
 
 // Its letter.
 impl fmt::Display for Part {
+    ghost output = { λ part. Some (part_text part) };
+
     fn fmt<W: fmt::Write>(&self, f: &mut fmt::Formatter<W>) -> fmt::Result {
         write!(f, "{}", char::from(self.letter()))
     }

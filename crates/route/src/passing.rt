@@ -1,7 +1,7 @@
 // A disc passed on the way down a gathering.
-ghost use Rattle.std.specs.Prelude.{◌≡◌, ◌+◌, ◌<◌, length};
+ghost use Rattle.std.specs.Prelude.{◌+◌};
 ghost use Rattle.plan.specs.Inner.Sound.{Gatherable};
-ghost use Rattle.route.specs.Inner.Along.{stacked, IsPeg, Passes};
+ghost use Rattle.route.specs.Inner.Along.{IsPeg, Passes};
 
 // Where a disc is, and what is left of the gathering for the smaller ones: their target, the moves left, and the peg on which they
 // are a tower, if they are one and not as in the position.
@@ -13,48 +13,33 @@ pub struct Passed {
     pub tower: Option<u8>,
 }
 
-// The peg of disc k + 1, of the tower or of the position.
-#[tactic(auto, unfolding(crate::specs::Inner::Along::stacked))]
-fn peg_of(position: &[u8], k: usize, tower: Option<u8>) -> u8
-    requires { k < length position.now }
-    ensures { result ≡ stacked position.now tower k }
+// Disc k + 1 below a disc that was passed. On its target it stays; else it waits while 2^k moves or more are left, and after that is on its
+// target, with the smaller ones to follow it as a tower from the third peg.
+// Stays: the clause and no `Gathering`, which would be no plainer, since each disc is passed with a target of its own.
+#[tactic(auto, using(crate::proofs::Along::Passing::passing))]
+pub fn pass(position: &[u8], k: usize, above: Passed) -> Passed
+    requires gatherable { Gatherable position.now (k + 1) above.goal }
+    requires tower_peg { IsPeg above.tower }
+    ensures { Passes position.now k above.goal above.rest above.tower result }
 {
-    match tower {
-        Some(peg) => peg,
-        None => position[k],
-    }
-}
-
-// Disc k + 1 when some moves of a gathering are left. On its target it stays; else it waits while 2^k moves or more are left, and
-// after that is on its target, with the smaller ones to follow it as a tower from the third peg.
-pub fn pass(position: &[u8], k: usize, goal: u8, rest: u64, tower: Option<u8>) -> Passed
-    requires gatherable { Gatherable position.now (k + 1) goal }
-    requires tower_peg { IsPeg tower }
-    ensures { Passes position.now k goal rest tower result }
-{
-    let at = peg_of(position, k, tower);
+    let goal = above.goal;
+    let at = above.tower.unwrap_or(position[k]);
     let next = board::third(goal, at);
     let last = plan::tower::length(k) + 1;
     if at == goal {
-        return Passed {
-            peg: goal,
-            goal,
-            rest,
-            tower,
-        };
+        return Passed { peg: goal, ..above };
     }
-    if last <= rest {
+    if last <= above.rest {
         return Passed {
             peg: at,
             goal: next,
-            rest: rest - last,
-            tower,
+            rest: above.rest - last,
+            ..above
         };
     }
     Passed {
         peg: goal,
-        goal,
-        rest,
         tower: Some(next),
+        ..above
     }
 }

@@ -3,6 +3,7 @@ use Prim.Native.Nat.{ℕ, zero, suc, ◌+◌, ◌-◌, ◌*◌, ◌%◌, ◌≤�
 use mathlib.Core.List.{List, [], ◌∷◌, ◌++◌, append_assoc, append-nil}
 use mathlib.Core.Logic.{◌≢◌}
 use mathlib.Core.Path.{◌≡◌, refl, ap, sym, ◌∙◌}
+use borrow.Rule.Slice.PartMut.{mid_of, put_mid}
 use native.Mathlib.Decide.{ℕ_discrete}
 use native.Mathlib.Nat.{add-zero, add-suc}
 use native.Mathlib.Omega.{arith}
@@ -19,7 +20,7 @@ use Rattle.run.specs.declared.pegs.Pegs.{Pegs}
 use Rattle.run.specs.declared.stepper.Leg.{Leg}
 use Rattle.run.specs.declared.stepper.Stepper.{Stepper}
 use Rattle.run.specs.declared.stepper.Turn.{Turn}
-use Rattle.run.proofs.Letters.{letters_more, letters_length, sets_append}
+use Rattle.run.proofs.Letters.{letters_more, letters_length, sets_append, sets_part}
 use Rattle.run.proofs.Steps.{gather_small, gather_other, step_gather}
 
 -- A stepper without its leg.
@@ -116,14 +117,18 @@ module _ (g : Gatherer) (i : ℕ) {a : Pegs} {u : Turn} (here : gatherer a u ≡
       ∙ ap (λ (x : Turned). gather_next (gatherer a u) x) is
       ∙ ap (λ (h : Gatherer). gather_next h (gather_move h)) here
 
-  -- Its letters, stored after those before, are stored with them.
-  pub gather_go : (at : ℕ) (o : List ℕ)
-      → sets (sets o (2 * at) (gather_letters g i)) (2 * (at + i)) (letter r.from ∷ letter r.to ∷ []) ≡ sets o (2 * at) (gather_letters g (suc i))
+  -- Its letters, written at the front of what is left, are stored with those before.
+  pub gather_go : (o : List ℕ) {l v : List ℕ} → l ≡ sets o 0 (gather_letters g i) → 2 * i + 2 ≤ length l
+      → v ≡ sets (mid_of (2 * i) (length l - 2 * i) l) 0 (letter r.from ∷ letter r.to ∷ [])
+      → put_mid (2 * i) (length l - 2 * i) l v ≡ sets o 0 (gather_letters g (suc i))
   unfolding gather_letters
-  gather_go at o =
+  gather_go o {l} {v} before room put =
       let next : r ≡ gather_move (gathers_from g i) = is ∙ ap (λ (h : Gatherer). gather_move h) here in
-      let place : 2 * (at + i) ≡ 2 * at + length (gather_letters g i) = omega (arith, gathered_length g i) in
-      rw (← next, place, sets_append o (2 * at) (gather_letters g i) (letter r.from ∷ letter r.to ∷ []))
+      let letters : List ℕ = letter r.from ∷ letter r.to ∷ [] in
+      let place : 2 * i ≡ 0 + length (gather_letters g i) = omega (arith, gathered_length g i) in
+      ap (put_mid (2 * i) (length l - 2 * i) l) put
+      ∙ sets_part (2 * i) (length l - 2 * i) l letters (omega arith) (omega arith)
+      ∙ rw (before, ← next, place) (sym (sets_append o 0 (gather_letters g i) letters))
 
 module _ (s : Stepper) (q : ℕ → ℕ) (i : ℕ) {t : Stepper} (here : t ≡ steps_from s q i) (m : ℕ) (h : m ≤ t.turn.left) where
   -- After m moves of the gathering the stepper t, after i moves of s, is after i + m.
@@ -134,10 +139,14 @@ module _ (s : Stepper) (q : ℕ → ℕ) (i : ℕ) {t : Stepper} (here : t ≡ s
       ∙ ap (λ (x : Stepper). steps_from x q m) here
       ∙ sym (steps_add s q i m)
 
-  -- The moves of the gathering, stored after those before, are written.
-  pub gathered_letters : (o : List ℕ) → 2 * (i + m) ≤ length o
-      → sets (step_letters s q i ++ drop (2 * i) o) (2 * i) (gather_letters (gatherer_of t) m) ≡ step_letters s q (i + m) ++ drop (2 * (i + m)) o
-  gathered_letters o room =
+  -- The moves of the gathering, written at the front of what is left, come after those before.
+  pub gathered_letters : (o : List ℕ) {l v : List ℕ} → l ≡ step_letters s q i ++ drop (2 * i) o → length l ≡ length o → 2 * (i + m) ≤ length o
+      → v ≡ sets (mid_of (2 * i) (length l - 2 * i) l) 0 (gather_letters (gatherer_of t) m)
+      → put_mid (2 * i) (length l - 2 * i) l v ≡ step_letters s q (i + m) ++ drop (2 * (i + m)) o
+  gathered_letters o {l} {v} is same room put =
+      let k : ℕ = length l - 2 * i in
       let size : 2 * (i + m) ≡ 2 * i + length (step_letters t q m) = omega (arith, letters_length t q m) in
-      rw (← letters_gather t q m h, letters_add s q i m, ← here, size)
+      ap (put_mid (2 * i) k l) put
+      ∙ sets_part (2 * i) k l (gather_letters (gatherer_of t) m) (omega arith) (omega (arith, gathered_length (gatherer_of t) m))
+      ∙ rw (is, ← letters_gather t q m h, letters_add s q i m, ← here, size)
       (stored (step_letters s q i) (step_letters t q m) o (2 * i) (letters_length s q i) (omega (arith, size)))

@@ -7,3 +7,4 @@ pub mod Follows
 pub mod Runs
 pub mod Ahead
 pub mod Starting
+pub mod Calls

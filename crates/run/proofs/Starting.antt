@@ -100,3 +100,18 @@ module _ (o : Opened) where
     pub leg_ready : {s : Stepper} {l : Leg} → Ahead (peg (take n b)) (peg to) (length (take n b)) l (drop i route) → Started s (take n b) l
         → Ready s (after from (take i route)) (peg to) (drop i route)
     leg_ready a w = rw (← read, ← size) (ready_start pegs_formed refl a w)
+
+    -- In a spreading it is of a disc that is not on its goal peg.
+    pub leg_spreads : {c : Course} {g : Stage} → c ≡ course_of from to o.route → g ≡ stage_of c i
+        → Spreads g (peg (take n b)) (peg to) (length (take n b))
+    leg_spreads {c} {g} course stage = ahead_spreads c g (leg_ahead course stage refl)
+
+    -- Its disc is one of them, and goes between pegs.
+    pub leg_within : {c : Course} {g : Stage} {l : Leg} → c ≡ course_of from to o.route → g ≡ stage_of c i
+        → l ≡ start_leg c g (peg (take n b)) (peg to) (length (take n b))
+        → (l.disc < length (take n b)) × (l.from < 3) × (l.to < 3)
+    leg_within course stage leg =
+        let a = leg_ahead course stage leg in (a.there, a.pegs.first, a.pegs.second)
+
+-- What is known of the stepper at an index.
+pub ruleset started = (pegs_formed, pegs_size, leg_spreads, leg_within, leg_ahead, leg_ready)

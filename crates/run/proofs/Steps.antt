@@ -1,23 +1,30 @@
 -- Laws of the next move: which of its cases a stepper is in, and what each gives.
-use Prim.Native.Nat.{ℕ, zero, suc, ◌%◌, ◌≤◌, ◌<◌}
+use Prim.Native.Nat.{ℕ, zero, suc, ◌+◌, ◌%◌, ◌≤◌, ◌<◌}
 use mathlib.Core.Bool.{Bool, true, false, cond}
 use mathlib.Core.Logic.{◌≢◌}
 use mathlib.Core.List.{List}
-use mathlib.Core.Path.{◌≡◌, ap}
+use mathlib.Core.Path.{◌≡◌, ◌∙◌, refl, sym, ap}
+use native.Mathlib.Decide.{ℕ_discrete}
 use native.Mathlib.Omega.{arith}
-use borrow.Author.Tests.{eq-eqb, ne_eqb}
+use borrow.Author.Tests.{eq-eqb, ne_eqb, lt-ltb}
 use lib.Dec.{eqb}
-use lib.ListN.{length}
+use lib.ListN.{length, length-take, take, get_or}
+use lib.Seq.{get_or-take}
 use Rattle.board.specs.Position.{peg}
 use Rattle.board.specs.Task.{limit}
 use Rattle.board.proofs.Formed.{formed_pegs}
 use Rattle.board.proofs.Pegs.{third_peg}
-use Rattle.run.specs.Inner.Pegs.{Carries, shifted}
-use Rattle.run.specs.Inner.Stepper.{Turned, small_turn, other_turn, gather_turn, spread_leg, next_leg, leg_turn, Advance, leg_step, gather_step, advance, Safe}
+use Rattle.run.specs.Inner.Pegs.{Carries, shifted, disc_on}
+use Rattle.run.specs.Inner.Stepper.{Turned, small_turn, other_turn, gather_turn, spread_leg, next_leg, leg_turn, Advance, leg_step, gather_step, advance, Safe, second, last, other_from, other_to}
 use Rattle.run.specs.declared.pegs.Pegs.{Pegs}
 use Rattle.run.specs.declared.stepper.Leg.{Leg}
 use Rattle.run.specs.declared.stepper.Turn.{Turn}
 use Rattle.run.specs.declared.stepper.Stepper.{Stepper}
+
+-- Of the two pegs without disc 1 the first has the smaller topmost disc.
+pub other_second : (t : List ℕ) (i : ℕ) → disc_on t (second i) < disc_on t (last i) → (other_from t i ≡ second i) × (other_to t i ≡ last i)
+unfolding other_from other_to
+other_second t i h = let yes = lt-ltb _ _ h in (rw yes, rw yes)
 
 module _ (t : List ℕ) (u : Turn) where
   -- An odd number is left to gather.
@@ -111,3 +118,35 @@ leg_goes u l l' e = (ap (λ (r : Turned). r.from) e, ap (λ (r : Turned). r.to) 
 pub leg_made : {t x : Stepper} {l : Leg} {r : Turned} {a : Pegs} (q : ℕ → ℕ) → t ≡ x → t.turn.left ≡ 0 → l ≡ next_leg t.leg q
     → r ≡ leg_turn t.turn t.leg l → a ≡ shifted t.pegs r.from r.to → stepped r a l ≡ advance x q
 leg_made {t} q here none next is held = rw (← here, step_leg t q none, ← next, ← is, held)
+
+-- Where each of the first k goals is the tower's peg there is no next leg of the spreading.
+none_below : (g : List ℕ) (k w : ℕ) → ((d : ℕ) → d < k → peg g d ≡ w) → record { disc = 0; from = 0; to = 0; again = false } ≡ spread_leg (peg g) k w
+unfolding spread_leg
+none_below g zero w home = refl
+none_below g (suc k) w home = rw (eq-eqb (peg g k) w (home k (omega arith))) (none_below g k w (λ d h. home d (omega arith)))
+
+pub spread_none : (g : List ℕ) (k w : ℕ) → k ≤ length g → ((d : ℕ) → d < length (take k g) → get_or (take k g) d 0 ≡ w)
+    → record { disc = 0; from = 0; to = 0; again = false } ≡ spread_leg (peg g) k w
+spread_none g k w room home =
+    none_below g k w (λ d h. sym (get_or-take k g d 0 h) ∙ home d (omega (arith, length-take k g)))
+
+-- Else it is that of the last whose goal is another.
+last_below : (g : List ℕ) (k w d : ℕ) → d < k → peg g d ≢ w → ((e : ℕ) → d < e → e < k → peg g e ≡ w)
+    → record { disc = d; from = w; to = peg g d; again = false } ≡ spread_leg (peg g) k w
+unfolding spread_leg
+last_below g zero w d h away home = absurd (omega arith)
+last_below g (suc k) w d h away home =
+    elim (ℕ_discrete d k) [
+      | yes e ↦ rw (e, ne_eqb (peg g k) w (rw e at away))
+      | no n ↦ rw (eq-eqb (peg g k) w (home k (omega arith) (omega arith))) (last_below g k w d (omega arith) away (λ e i j. home e i (omega arith)))
+    ]
+
+pub spread_last : (g : List ℕ) (k w d : ℕ) → k ≤ length g → d < length (take k g) → get_or (take k g) d 0 ≢ w
+    → ((e : ℕ) → d + 1 ≤ e → e < length (take k g) → get_or (take k g) e 0 ≡ w)
+    → record { disc = d; from = w; to = get_or g d 0; again = false } ≡ spread_leg (peg g) k w
+spread_last g k w d room h away home =
+    let below : d < k = omega (arith, length-take k g) in
+    last_below g k w d below (rw (get_or-take k g d 0 below) at away) (λ e i j. sym (get_or-take k g e 0 j) ∙ home e (omega arith) (omega (arith, length-take k g)))
+
+-- What is known of a leg's own move.
+pub ruleset legs = (leg_safe, leg_goes, leg_made)

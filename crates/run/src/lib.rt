@@ -19,6 +19,7 @@ use route::opening::open_list;
 
 // Run: writes moves of a shortest route from an index on as letter pairs, as many as remain or fit, and answers how many. Refuses with
 // the task faults, 4, 5 and 6, and then writes nothing.
+#[tactic(auto, using(board::proofs::Replies::goes_up, crate::proofs::Calls::unlisted, route::proofs::Calls::Lists::list_opened))]
 pub fn run(task: &[u8], route: u64, first: u64, out: &mut [u8]) -> Result<usize, Refusal>
     ensures result_value { reply_of result ≡ run_answer task.now route first out.old }
     ensures out_after { out.new ≡ run_writes task.now route first out.old }
@@ -28,6 +29,7 @@ pub fn run(task: &[u8], route: u64, first: u64, out: &mut [u8]) -> Result<usize,
 }
 
 // Writes the moves of a route from an index on, as many as remain or fit, and answers how many.
+#[tactic(auto, unfolding(route::specs::Answer::letters))]
 fn run_from(opened: &Opened, first: u64, out: &mut [u8]) -> usize
     requires { first ≤ shortest opened.now.plan }
     ensures value { result ≡ min (shortest opened.now.plan - first) (length out.old / 2) }

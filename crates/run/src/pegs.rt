@@ -7,6 +7,11 @@ ghost use Rattle.run.specs.Inner.Pegs.{Holds, Carries, shifted};
 
 use board::LIMIT;
 
+// What `Pegs::of` begins with: no disc. It is copied from here, since filling an array would take the C library's `memset`, and the archive
+// needs `memcpy` alone.
+const UNUSED: &[usize; LIMIT] = &[LIMIT + 1; LIMIT];
+
+// Stays: arrays and no `Vec`, since the library has no heap; and n + 1 for none, as `Holds` of specs/Inner/Pegs has it.
 #[derive(Clone, Copy)]
 pub struct Pegs {
     pub top: [usize; 3],
@@ -15,6 +20,7 @@ pub struct Pegs {
 
 impl Pegs {
     // The pegs of a position, from its largest disc to its smallest: each goes onto what its peg has by then.
+    // Stays: the clause and no `Task`, which would be no plainer: the position is one on a route, or a part of a task's start.
     #[tactic(auto, using(board::proofs::Formed::formed_pegs, crate::proofs::Held::holds_none))]
     pub fn of(position: &[u8]) -> Pegs
         requires { (length position.now ≤ limit) × WellFormed position.now }
@@ -22,7 +28,7 @@ impl Pegs {
     {
         let mut pegs = Pegs {
             top: [position.len() + 1; 3],
-            beneath: [0; LIMIT],
+            beneath: *UNUSED,
         };
         for d in (0..position.len()).rev() {
             let peg = position[d] as usize;

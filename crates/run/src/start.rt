@@ -27,6 +27,7 @@ fn aim_of(pegs: &[u8], k: usize, target: u8) -> u8
 }
 
 // The leg at a stage of a course. In a spreading it is of the largest disc that is not on its goal peg.
+#[tactic(auto, using(plan::proofs::Largest::largest_le), unfolding(crate::specs::Inner::Start::start_leg))]
 fn start_leg(course: Course, stage: Stage, pegs: &[u8], goal: &[u8]) -> Leg
     requires pegs_len { length pegs.now ≡ length goal.now }
     requires spreads { Spreads stage (peg pegs.now) (peg goal.now) (length pegs.now) }
@@ -58,6 +59,7 @@ fn start_leg(course: Course, stage: Stage, pegs: &[u8], goal: &[u8]) -> Leg
 }
 
 // The stepper at a position before a leg.
+// Stays: the clause and no `Task`, which would be no plainer: the position is one on a route.
 #[tactic(auto, using(board::proofs::Pegs::third_peg))]
 fn stepper_at(pegs: &[u8], leg: Leg) -> Stepper
     requires disc_in_bounds { (leg.disc < length pegs.now) × (leg.from < 3) × (leg.to < 3) }
@@ -77,13 +79,14 @@ fn stepper_at(pegs: &[u8], leg: Leg) -> Stepper
 }
 
 // The stepper at an index of a route below its length.
+#[tactic(auto, using(route::proofs::Calls::Routes::opened_course, crate::proofs::Starting::started))]
 pub fn start_at(opened: &Opened, index: u64) -> Stepper
     requires { index < shortest opened.now.plan }
     ensures { Ready result (after opened.now.task.start.now (take index (route_of opened.now.task.start.now opened.now.task.goal.now opened.now.route))) (peg opened.now.task.goal.now) (drop index (route_of opened.now.task.start.now opened.now.task.goal.now opened.now.route)) }
 {
     let n = opened.task.discs();
-    let course = Course::of(&opened.task, opened.plan, opened.route);
-    let pegs = route::pegs::route_pegs(opened, index);
+    let course = opened.course();
+    let pegs = opened.pegs(index);
     let leg = start_leg(course, course.stage(index), &pegs[..n], opened.task.goal);
     stepper_at(&pegs[..n], leg)
 }

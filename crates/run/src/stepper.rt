@@ -7,6 +7,9 @@ ghost use Rattle.run.specs.Inner.Stepper.{turned, small_turn, other_from, other_
 
 use crate::pegs::Pegs;
 
+// Stays: `Leg`, `Turn` and `Step` without ghost fields for their pegs: definitions of specs/Inner, as `next_leg` and `gather_turn`, build
+// such values of any numbers, and a second record beside each would be no plainer.
+
 // A move of disc `disc` + 1, for which the smaller ones are gathered on the third peg; `again`: the same disc crosses once more.
 #[derive(Clone, Copy)]
 pub struct Leg {
@@ -41,6 +44,8 @@ pub struct Step {
 
 impl Turn {
     // Disc 1 goes to its target.
+    // Stays: this move and the next are written out, and are no `carry`: with one general move for both, a loop that was tried made 160
+    // million moves a second, and missed what `hinz_run_stacks` makes, the bar (docs/DECISIONS.md).
     #[tactic(auto, unfolding(crate::specs::Inner::Stepper::small_turn))]
     fn small_turn(&mut self, pegs: &mut Pegs) -> Step
         requires { (0 < self.old.left) × (self.old.small < 3) × (self.old.aim < 3) × (get_or pegs.old.top self.old.small 0 ≡ 1) }
@@ -121,28 +126,25 @@ impl Turn {
 }
 
 // The next leg of spreading a tower of k discs: that of its largest disc whose goal is another peg.
-#[tactic(auto, unfolding(crate::specs::Inner::Stepper::spread_leg))]
+#[tactic(auto, using(crate::proofs::Steps::spread_none))]
 fn spread_leg(goal: &[u8], k: usize, tower: u8) -> Leg
     requires { k ≤ length goal.now }
     ensures { result ≡ spread_leg (peg goal.now) k tower }
 {
-    for disc in (0..k).rev() {
-        let to = goal[disc];
-        if to != tower {
-            return Leg {
-                disc,
-                from: tower,
-                to,
-                again: false,
-            };
-        }
-    }
-    // Stays: all 0 for none, as `spread_leg` of specs/Inner/Stepper has it: after a route's last move the stepper still has a leg.
-    Leg {
-        disc: 0,
-        from: 0,
-        to: 0,
-        again: false,
+    match goal[..k].iter().rposition(|&to| to != tower) {
+        Some(disc) => Leg {
+            disc,
+            from: tower,
+            to: goal[disc],
+            again: false,
+        },
+        // Stays: all 0 for none, as `spread_leg` of specs/Inner/Stepper has it: after a route's last move the stepper still has a leg.
+        None => Leg {
+            disc: 0,
+            from: 0,
+            to: 0,
+            again: false,
+        },
     }
 }
 

@@ -11,31 +11,36 @@ use crate::pegs::Pegs;
 use crate::stepper::{Step, Stepper, Turn, next_leg};
 use route::count::lesser;
 
-// Writes a move as the one at an index, as two letters, from then to.
-fn write_step(step: Step, out: &mut [u8], i: usize)
-    requires room { 2 * i + 2 ≤ length out.old }
+// Writes a move at the front of a buffer, as two letters, from then to.
+fn write_step(step: Step, out: &mut [u8])
+    requires room { 2 ≤ length out.old }
     requires pegs { (step.from < 3) × (step.to < 3) }
-    ensures { out.new ≡ sets out.old (2 * i) (letter step.from ∷ letter step.to ∷ []) }
+    ensures { out.new ≡ sets out.old 0 (letter step.from ∷ letter step.to ∷ []) }
 {
-    out[2 * i] = b'A' + step.from;
-    out[2 * i + 1] = b'A' + step.to;
+    out[0] = b'A' + step.from;
+    out[1] = b'A' + step.to;
 }
 
-// Writes so many moves of a gathering from an index on. No leg comes between: all that a move needs is at hand. The pegs and the turn are
-// lent apart, since as fields of one struct they stay in memory: a fifth slower.
-fn write_gathering(turn: &mut Turn, pegs: &mut Pegs, count: usize, out: &mut [u8], at: usize)
-    requires count_in_bounds { 2 * (at + count) ≤ length out.old }
+// Writes so many moves of a gathering at the front of a buffer. No leg comes between: all that a move needs is at hand.
+// Stays: a count, and no part of the buffer to be filled: tried, with one a Run of one move of 60 discs took 714 to 783 ns, and the bar is
+// the 621 to 712 ns that it takes with a count.
+// Stays: the place of a move and no pairs: `as_chunks_mut` promises nothing of what the slice ends as.
+// Stays: the pegs and the turn are lent apart: tried, as fields of one struct they stayed in memory, which was a fifth slower, and so behind
+// `hinz_run_stacks`, the bar (docs/DECISIONS.md).
+#[tactic(auto, unfolding(crate::specs::Inner::Gatherer::gathers_from, crate::specs::Inner::Gatherer::gather_letters))]
+fn write_gathering(turn: &mut Turn, pegs: &mut Pegs, count: usize, out: &mut [u8])
+    requires count_in_bounds { 2 * count ≤ length out.old }
     requires by_index { (i : ℕ) → i < count → Gathers (gathers_from (gatherer pegs.old turn.old) i) }
     ensures gatherer_after { gatherer pegs.new turn.new ≡ gathers_from (gatherer pegs.old turn.old) count }
-    ensures out_after { out.new ≡ sets out.old (2 * at) (gather_letters (gatherer pegs.old turn.old) count) }
+    ensures out_after { out.new ≡ sets out.old 0 (gather_letters (gatherer pegs.old turn.old) count) }
 {
     for i in 0..count {
-        let step = turn.gather_turn(pegs);
-        write_step(step, out, at + i);
+        write_step(turn.gather_turn(pegs), &mut out[2 * i..]);
     }
 }
 
 // Writes so many moves.
+#[tactic(auto, using(crate::proofs::Letters::begin, crate::proofs::Steps::legs), unfolding(crate::specs::Inner::Written::steps_from))]
 pub fn write_moves(stepper: Stepper, goal: &[u8], count: usize, out: &mut [u8])
     requires count_in_bounds { 2 * count ≤ length out.old }
     requires by_index { (i : ℕ) → i < count → Safe (steps_from stepper (peg goal.now) i) goal.now }
@@ -47,17 +52,17 @@ pub fn write_moves(stepper: Stepper, goal: &[u8], count: usize, out: &mut [u8])
         mut leg,
     } = stepper;
     let mut i = 0;
-    // Stays: a turn of the loop writes one move, or all that are left of a gathering.
+    // Stays: a `for` would be no plainer, since a turn of the loop writes one move, or all that are left of a gathering.
     while i < count {
         if turn.left == 0 {
             let next = next_leg(leg, goal);
             let step = turn.leg_turn(leg, next, &mut pegs);
-            write_step(step, out, i);
+            write_step(step, &mut out[2 * i..]);
             leg = next;
             i += 1;
         } else {
             let moves = lesser(turn.left, count - i);
-            write_gathering(&mut turn, &mut pegs, moves, out, i);
+            write_gathering(&mut turn, &mut pegs, moves, &mut out[2 * i..]);
             i += moves;
         }
     }

@@ -1,4 +1,8 @@
 // The breadth-first search.
+ghost use Rattle.std.specs.Prelude.{◌+◌, ◌≤◌, is_none};
+ghost use Rattle.std.specs.VecDeque.{deque_len};
+ghost use Rattle.std.specs.List.{count_by};
+
 use crate::position::{MOVES, Position};
 use std::alloc::{AllocError, Global};
 use std::collections::VecDeque;
@@ -43,21 +47,22 @@ fn look(
     places: &[usize],
     reaches: &mut [Option<Reach>],
     queue: &mut VecDeque<usize>,
-) -> Result<(), AllocError> {
+) -> Result<(), AllocError>
+    ensures { deque_len queue.new + count_by is_none reaches.new ≤ deque_len queue.old + count_by is_none reaches.old }
+{
     let moves = from.moves.saturating_add(1);
     let lists = from.lists;
-    for place in places {
-        match reaches.get_mut(*place) {
-            Some(Some(known)) => {
-                if known.moves == moves {
-                    known.lists = known.lists.saturating_add(lists);
-                }
+    for &place in places {
+        match reaches.get(place).copied() {
+            Some(None) => {
+                reaches[place] = Some(Reach { moves, lists });
+                queue.push_back(place)?;
             }
-            Some(reach) => {
-                *reach = Some(Reach { moves, lists });
-                queue.push_back(*place)?;
+            Some(Some(known)) if known.moves == moves => {
+                let lists = known.lists.saturating_add(lists);
+                reaches[place] = Some(Reach { moves, lists });
             }
-            None => {}
+            _ => {}
         }
     }
     Ok(())
@@ -75,10 +80,8 @@ fn reaches_from(
         *reach = Some(Reach { moves: 0, lists: 1 });
         queue.push_back(start)?;
     }
-    // Each place joins the queue once.
-    for _ in links {
-        if let Some(at) = queue.pop_front()
-            && let Some(Some(from)) = reaches.get(at).copied()
+    while let Some(at) = queue.pop_front() {
+        if let Some(Some(from)) = reaches.get(at).copied()
             && let Some(places) = links.get(at)
         {
             look(from, places, &mut reaches, &mut queue)?;

@@ -7,6 +7,7 @@ use std::alloc::{AllocError, Global};
 pub const MOVES: [(u8, u8); 6] = [(0, 1), (0, 2), (1, 0), (1, 2), (2, 0), (2, 1)];
 
 // The peg of each disc, from the smallest disc on.
+// Stays: an array with the number of discs beside it, since a list (`Vec`, or the kit's `ArrayVec`) is not `Copy`, and so no plainer.
 #[derive(Clone, Copy, PartialEq, Eq)]
 pub struct Position {
     discs: usize,

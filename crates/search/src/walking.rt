@@ -3,6 +3,7 @@ use crate::pairs::Pair;
 use crate::position::Position;
 
 // What each byte of a position holds before the call.
+// Stays: this number, and that of the wears, for none: an `Option` would be no plainer, since the calls write numbers into what is lent.
 const NO_PEG: u8 = 3;
 
 // What each entry of the wears holds before the call.
@@ -17,7 +18,8 @@ pub struct Walk<'a> {
     wears: [u64; 7],
 }
 
-// The letter of a peg.
+// The letter of a peg, as a byte to compare with what Run writes.
+// Stays: its own `match`, so that what Run writes is compared with letters that are not the library's: one of `board` is no plainer.
 pub fn letter(peg: u8) -> u8 {
     match peg {
         0 => b'A',
@@ -38,7 +40,7 @@ impl Pair<'_> {
     // What Run writes of a whole route.
     pub fn written<'b>(&self, route: u64, letters: &'b mut [u8; 128]) -> Option<&'b [u8]> {
         let count = run::run(self.task, route, 0, letters).ok()?;
-        Some(&letters[..2 * count.min(64)])
+        letters.get(..count.checked_mul(2)?)
     }
 
     // A walk along a route, at the start.

@@ -8,3 +8,5 @@ pub mod Tally
 -- What demand 3 says of a list of calls.
 pub mod Sessions
 pub mod Demand3
+-- What the programs print.
+pub mod Printed

@@ -25,13 +25,14 @@ fn no_session() -> Session
         start: zeros,
         goal: zeros,
         current: zeros,
-        counts: Counts::default(),
+        counts: Counts::none(),
         fumbles: 0,
         remaining: 0,
     }
 }
 
 // The record of a task.
+#[tactic(auto, using(board::proofs::Tasks::joined_task, plan::proofs::Sound::ends_fewest))]
 fn opened(task: &Task) -> Session
     ensures { result ≡ opened_of (task.now.start.now ++ task.now.goal.now) }
 {
@@ -42,7 +43,7 @@ fn opened(task: &Task) -> Session
         start,
         goal,
         current: start,
-        counts: Counts::default(),
+        counts: Counts::none(),
         fumbles: 0,
         remaining: task.plan().shortest(),
     }

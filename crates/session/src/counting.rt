@@ -1,7 +1,8 @@
 // The counts of a session, and what a play and a report make of them.
-ghost use Rattle.std.specs.Prelude.{true, ◌≡◌, ◌+◌, ◌≤◌, ◌<◌, ◌^◌};
+ghost use Rattle.std.specs.Prelude.{true, Some, ◌≡◌, ◌+◌, ◌≤◌, ◌<◌, ◌^◌};
 ghost use Rattle.board.specs.Refusal.{number};
-ghost use Rattle.session.specs.Counts.{mark_of, counted, fumble as fumble_of, full, counts_agree, excess_of};
+ghost use Rattle.session.specs.Counts.{no_plays, mark_of, counted, fumble as fumble_of, full, counts_agree, excess_of};
+ghost use Rattle.session.specs.Printed.{mark_text, counts_text, figures_text};
 
 use board::Refusal;
 use std::cmp::Ordering;
@@ -57,6 +58,13 @@ pub fn fumble(why: Refusal) -> u64
 }
 
 impl Counts {
+    // No play yet.
+    pub fn none() -> Counts
+        ensures { result ≡ no_plays }
+    {
+        Counts::default()
+    }
+
     // One play more.
     #[tactic(auto, using(crate::proofs::Account::counts_few, crate::proofs::Account::counts_within), unfolding(crate::specs::Counts::counted))]
     pub fn with(mut self, mark: Mark) -> Counts
@@ -104,17 +112,21 @@ impl Counts {
 
 // The mark's word.
 impl fmt::Display for Mark {
+    ghost output = { λ mark. Some (mark_text mark) };
+
     fn fmt<W: fmt::Write>(&self, f: &mut fmt::Formatter<W>) -> fmt::Result {
-        match self {
-            Mark::Toward => write!(f, "toward"),
-            Mark::Level => write!(f, "level"),
-            Mark::Away => write!(f, "away"),
-        }
+        f.write_str(match self {
+            Mark::Toward => "toward",
+            Mark::Level => "level",
+            Mark::Away => "away",
+        })
     }
 }
 
 // The four counts, each after its name.
 impl fmt::Display for Counts {
+    ghost output = { λ counts. Some (counts_text counts) };
+
     fn fmt<W: fmt::Write>(&self, f: &mut fmt::Formatter<W>) -> fmt::Result {
         write!(
             f,
@@ -126,6 +138,8 @@ impl fmt::Display for Counts {
 
 // The counts, and then what remains and the excess.
 impl fmt::Display for Figures {
+    ghost output = { λ figures. Some (figures_text figures) };
+
     fn fmt<W: fmt::Write>(&self, f: &mut fmt::Formatter<W>) -> fmt::Result {
         write!(
             f,

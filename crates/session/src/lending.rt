@@ -20,6 +20,7 @@ pub fn play(session: &mut Session, from: u8, to: u8) -> Result<Mark, Refusal>
 }
 
 // Play itself, on a record by value.
+// Stays: beside `step`, which promises the same: both are public functions, and what may not change keeps each.
 pub fn play_on(mut session: Session, from: u8, to: u8) -> Stepped
     ensures { (reply_of result.played ≡ play_answer session (record { from = from; to = to }))
         × (result.session ≡ play_leaves session (record { from = from; to = to })) }

@@ -65,7 +65,7 @@ impl Session {
 
 // Play on a record by value: the mark of a move, and the record after it. Refuses with 10, 11, 3, 8 and 9: after 8 and 9 the record has
 // one fumble more, after the others it is as it was.
-#[tactic(auto, unfolding(crate::specs::Answer::play_answer, crate::specs::Answer::play_leaves))]
+#[tactic(auto, using(crate::proofs::Calls::play_fits), unfolding(crate::specs::Answer::play_answer, crate::specs::Answer::play_leaves))]
 pub fn step(s: Session, from: u8, to: u8) -> Stepped
     ensures { (reply_of result.played ≡ play_answer s (record { from = from; to = to }))
         × (result.session ≡ play_leaves s (record { from = from; to = to })) }

@@ -9,21 +9,19 @@ ghost use Rattle.session.specs.Record.{goal_of, first_of, now_of, positions_held
 use crate::counting::PLAY_LIMIT;
 use crate::record::Session;
 use board::{LIMIT, holds_position};
-use plan::Task;
+use plan::crossing::plan_between;
 
 impl Session {
     // The fewest moves from one of its positions to its goal.
+    // Stays: the clause of `plan_between`, which it calls, and no `Task`: a record's arrays are ends only up to n.
+    #[tactic(auto, using(plan::proofs::Sound::ends_fewest, plan::proofs::Sound::ends_fit))]
     pub(crate) fn fewest_from(&self, from: &[u8; LIMIT]) -> u64
         requires n_le_limit { self.now.n ≤ limit }
         requires ends { Ends (take self.now.n from.now) (goal_of self.now) }
         ensures value { result ≡ fewest (take self.now.n from.now) (goal_of self.now) }
         ensures upper_bound { result < 2 ^ limit }
     {
-        let task = Task {
-            start: &from[..self.n],
-            goal: &self.goal[..self.n],
-        };
-        task.plan().shortest()
+        plan_between(&from[..self.n], &self.goal[..self.n]).shortest()
     }
 
     // Whether what remains is the fewest from the current position to the goal.
@@ -36,7 +34,7 @@ impl Session {
     }
 
     // Whether the plays toward and away account for the way from the start to the current position.
-    #[tactic(auto, unfolding(crate::specs::Counts::marks_agree))]
+    #[tactic(auto, using(crate::proofs::Account::counts_few, crate::proofs::Account::counts_within, crate::proofs::Soundness::positions_held_lem, crate::proofs::Soundness::remaining_fits), unfolding(crate::specs::Counts::marks_agree))]
     fn marks_agree(&self) -> bool
         requires positions { positions_held self.now ≡ true }
         requires counts { counts_agree self.now.counts ≡ true }

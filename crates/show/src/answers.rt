@@ -1,67 +1,74 @@
-// The answers of the calls, and a session record.
-use crate::words::{Digits, held};
+// The answers of the calls in print.
+ghost use Rattle.std.specs.Prelude.{◌≡◌, ◌++◌, codes, Some};
+ghost use Rattle.route.specs.Printed.{move_text, part_text};
+ghost use Rattle.show.specs.Printed.{answer_text, found_text, written_text};
+
 use board::Refusal;
 use route::{DiscMove, Located, Part};
-use session::Session;
-use std::fmt::Display;
-use std::io;
+use std::fmt;
 
 // An answer, or its refusal.
-pub fn answer<T: Display>(rt: &impl Print, answer: &Result<T, Refusal>) -> io::Result<()> {
-    match answer {
-        Ok(value) => print!(rt; "{value}"),
-        Err(why) => print!(rt; "{why}"),
+#[derive(Clone, Copy)]
+pub struct Answer<T>(pub Result<T, Refusal>);
+
+impl<T: fmt::Display> fmt::Display for Answer<T> {
+    ghost output = { λ a. answer_text T.output a.0 };
+
+    fn fmt<W: fmt::Write>(&self, f: &mut fmt::Formatter<W>) -> fmt::Result {
+        match &self.0 {
+            Ok(value) => write!(f, "{value}"),
+            Err(why) => write!(f, "{why}"),
+        }
     }
 }
 
 // The verdict of a call that answers no more than that it is accepted.
-pub fn verdict(rt: &impl Print, verdict: Result<(), Refusal>) -> io::Result<()> {
-    answer(rt, &verdict.map(|()| "accepted"))
+pub fn verdict(verdict: Result<(), Refusal>) -> Answer<&'static str>
+    ensures { answer_text (λ word. Some word.now) result.0 ≡ answer_text (λ _. Some (codes "accepted")) verdict }
+{
+    Answer(verdict.map(|()| "accepted"))
 }
 
-// Move's answer: the disc, its pegs and the part.
-pub fn moving(rt: &impl Print, moving: Result<(DiscMove, Part), Refusal>) -> io::Result<()> {
-    match moving {
-        Ok((disc_move, part)) => print!(rt; "{disc_move} {part}"),
-        Err(why) => print!(rt; "{why}"),
+// What Move answers: the disc, its pegs and the part.
+#[derive(Clone, Copy)]
+pub struct Moved(pub (DiscMove, Part));
+
+impl fmt::Display for Moved {
+    ghost output = { λ m. Some (move_text m.0.0 ++ codes " " ++ part_text m.0.1) };
+
+    fn fmt<W: fmt::Write>(&self, f: &mut fmt::Formatter<W>) -> fmt::Result {
+        let (disc_move, part) = self.0;
+        write!(f, "{disc_move} {part}")
     }
 }
 
-// Place's answer, and its buffer where it is accepted.
-pub fn placed(rt: &impl Print, verdict: Result<(), Refusal>, buffer: &[u8]) -> io::Result<()> {
-    answer(rt, &verdict.map(|()| Digits(buffer)))
-}
+// What Locate answers: where the position is, or off.
+#[derive(Clone, Copy)]
+pub struct Found(pub Option<Located>);
 
-// The answer of Run or Parts, and its buffer.
-pub fn ran(rt: &impl Print, count: Result<usize, Refusal>, buffer: &[u8]) -> io::Result<()> {
-    match count {
-        Ok(count) => {
-            print!(rt; "{count} ")?;
-            rt.write_all(buffer)
+impl fmt::Display for Found {
+    ghost output = { λ p. Some (found_text p.0) };
+
+    fn fmt<W: fmt::Write>(&self, f: &mut fmt::Formatter<W>) -> fmt::Result {
+        match self.0 {
+            Some(place) => write!(f, "{place}"),
+            None => write!(f, "off"),
         }
-        Err(why) => print!(rt; "{why}"),
     }
 }
 
-// Locate's answer: where the position is, or off.
-pub fn located(rt: &impl Print, located: Result<Option<Located>, Refusal>) -> io::Result<()> {
-    match located {
-        Ok(Some(place)) => print!(rt; "{place}"),
-        Ok(None) => print!(rt; "off"),
-        Err(why) => print!(rt; "{why}"),
-    }
-}
+// What Run or Parts answers, and its buffer, byte by byte.
+#[derive(Clone, Copy)]
+pub struct Written<'a>(pub usize, pub &'a [u8]);
 
-// A session record, field by field, each position by its n discs.
-pub fn record(rt: &impl Print, s: &Session) -> io::Result<()> {
-    print!(rt;
-        "n {}, start {}, goal {}, current {}, {}, fumbles {}, remaining {}",
-        s.n,
-        held(s.n, &s.start),
-        held(s.n, &s.goal),
-        held(s.n, &s.current),
-        s.counts,
-        s.fumbles,
-        s.remaining
-    )
+impl fmt::Display for Written<'_> {
+    ghost output = { λ w. Some (written_text w.0 w.1.now) };
+
+    fn fmt<W: fmt::Write>(&self, f: &mut fmt::Formatter<W>) -> fmt::Result {
+        write!(f, "{} ", self.0)?;
+        for byte in self.1 {
+            write!(f, "{}", char::from(*byte))?;
+        }
+        Ok(())
+    }
 }

@@ -1,8 +1,10 @@
-// How the programs print answers: each in one way, to standard output.
+// How the programs print answers: each in one way, as a value with a Display.
 #![tactic(auto)]
 
 mod answers;
-mod words;
+mod positions;
+mod records;
 
-pub use answers::{answer, located, moving, placed, ran, record, verdict};
-pub use words::{Digits, Peg, held};
+pub use answers::{Answer, Found, Moved, Written, verdict};
+pub use positions::{Digits, held};
+pub use records::Record;

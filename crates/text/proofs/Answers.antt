@@ -1,6 +1,6 @@
 -- What is answered to the bytes of an input: what is read of them, and then the report of the task that it is.
 use Prim.Native.Nat.{ℕ, ◌%◌}
-use mathlib.Core.Path.{◌≡◌, refl}
+use mathlib.Core.Path.{◌≡◌, refl, sym}
 use mathlib.Core.Bool.{Bool, true, false, not}
 use mathlib.Core.List.{List, ◌++◌}
 use mathlib.Core.Logic.{◌≢◌}
@@ -9,13 +9,17 @@ use borrow.Author.Tests.{eqb-true, ne_eqb}
 use lib.Dec.{eqb, ltb}
 use lib.ListN.{length, length-append}
 use Rattle.board.specs.Position.{well_formed}
-use Rattle.board.specs.Reply.{Reply, answer, ◌>>◌, ◌>>=◌, check}
+use Rattle.board.specs.Reply.{Reply, refused, answer, pass, ◌>>◌, ◌>>=◌, check}
 use Rattle.board.specs.Task.{limit, start, goal, task_check}
 use Rattle.board.proofs.Replies.{then_assoc}
 use Rattle.board.proofs.Tasks.{joined_task}
+use Rattle.plan.specs.Answer.{plan_answer}
+use Rattle.plan.specs.Plan.{plan_of}
+use Rattle.plan.specs.declared.answer.Plan.{Plan}
+use Rattle.plan.proofs.Calls.{plan_answered, plan_refused}
 use Rattle.text.specs.Reading.{is_text, start_in, goal_in}
 use Rattle.text.specs.Report.{report_text}
-use Rattle.text.specs.Answer.{text_answer}
+use Rattle.text.specs.Answer.{text_answer, answer_text, refused_text}
 use Rattle.text.specs.Inner.Page.{read_answer}
 
 -- Two positions of one size are checked as their task is.
@@ -47,3 +51,25 @@ then_task k l false s g true e =
 pub answer_read : (b : List ℕ) → text_answer b ≡ (read_answer b >>= task_answer)
 unfolding text_answer read_answer
 answer_read b = then_task _ _ (not (is_text b)) (start_in b) (goal_in b) (eqb (length (start_in b)) (length (goal_in b))) refl
+
+-- What is refused as it is read is refused.
+pub unread : (b : List ℕ) {k : ℕ} → refused k ≡ read_answer b → refused k ≡ text_answer b
+unread b e = rw (answer_read b, ← e)
+
+-- What is read and has no plan is refused with the plan's number.
+pub unplanned : (b : List ℕ) {t : List ℕ} {k : ℕ} → answer t ≡ read_answer b → refused k ≡ plan_answer t → refused k ≡ text_answer b
+unplanned b {t} e none = rw (answer_read b, ← e, plan_refused t (sym none))
+
+-- A task that has a plan is accepted ...
+pub planned : (t : List ℕ) {p : Plan} → answer p ≡ plan_answer t → (task_check t ≡ pass) × (p ≡ plan_of (start t) (goal t))
+planned t e = let o = plan_answered t (sym e) in (o.accepted, sym o.plan)
+
+-- ... and where it is read it is reported.
+pub reported : (b : List ℕ) {t : List ℕ} {p : Plan} → answer t ≡ read_answer b → answer p ≡ plan_answer t
+    → answer (report_text (start t) (goal t)) ≡ text_answer b
+reported b {t} e made = rw (answer_read b, ← e, (planned t made).0)
+
+-- Other text is refused with 12.
+pub other_text : (b : List ℕ) → is_text b ≡ false → answer_text b ≡ refused_text 12
+unfolding answer_text text_answer
+other_text b h = rw h

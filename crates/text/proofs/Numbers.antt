@@ -9,7 +9,7 @@ use native.Mathlib.Omega.{arith}
 use borrow.Author.Tests.{lt-ltb, le-ltb}
 use lib.ListN.{length, length-append}
 use Rattle.std.specs.Fmt.{decimal as printed}
-use Rattle.std.proofs.lemmas.Fmt.{AppendsLastDigit, decimal_from_appends, length-decimal-le_succ}
+use Rattle.std.proofs.lemmas.Fmt.{AppendsLastDigit, decimal_from_appends, length-decimal-le, length-decimal-le_succ}
 use Rattle.text.specs.Input.{digit}
 use Rattle.text.specs.Decimal.{decimal_by, decimal, value_after, Numerals, none, more, Decimal}
 
@@ -43,6 +43,10 @@ decimal_std n h =
       more = λ k n h. rw (le-ltb n 10 h);
     } in
     sym (decimal_from_appends decimal_by last (suc n) n h (omega (arith, length-decimal-le_succ n h)))
+
+-- So a 64-bit number has at most 20: the room that a line keeps for it.
+pub decimal_fits : (n : ℕ) → n < 2 ^ 64 → length (decimal n) ≤ 20
+decimal_fits n h = rw (← decimal_std n h) (length-decimal-le 20 n (omega arith) (omega arith) h)
 
 -- Numerals and then a digit are numerals: for the digits of a number, made from those of its tenth.
 numerals_more : {t : List ℕ} {d : ℕ} → Numerals t → d < 10 → Numerals (t ++ (digit d ∷ []))

@@ -1,5 +1,10 @@
 -- The readings of specs/Reading in std's words, and one step of the loop that puts digits.
 use Rattle.std.proofs.Common.{◌≡◌, ℕ, suc, ◌+◌, ◌-◌, ◌≤◌, ◌<◌, Bool, true, false, cond, eqb, ltb, List, [], ◌∷◌, ◌++◌, Some, None, length, get_or, drop, fold, count_by, refl, arith, append_assoc, append-nil}
+use native.Mathlib.Numerals.{add-one}
+use mathlib.Core.Logic.{◌≢◌}
+use borrow.Author.Tests.{eq-eqb, ne_eqb}
+use lib.ListN.{drop_of_length-le}
+use lib.Seq.{drop-cons}
 use Rattle.std.specs.List.{position}
 use Rattle.std.specs.Option.{unwrap_or}
 use Rattle.std.proofs.lemmas.Bool.Decides.{nat_tests}
@@ -37,6 +42,21 @@ unfolding line_end
 end_position b =
     rw (is_position_or_len line_end (λ c. eqb c newline) refl (λ c b. let e : 1 + line_end b ≡ suc (line_end b) = omega arith in rw e) b)
     (found_or_end _ _ (prefix_len-le-length _ b))
+
+-- It ends where the next byte is a newline.
+pub end_here : (b : List ℕ) (i : ℕ) → i < length b → get_or b i 0 ≡ newline → line_end (drop i b) ≡ 0
+unfolding line_end
+end_here b i h e = rw (drop-cons b i 0 h, eq-eqb _ _ e)
+
+-- Where it is another, it ends later.
+pub end_past : (b : List ℕ) (i : ℕ) → i < length b → get_or b i 0 ≢ newline → line_end (drop i b) ≡ suc (line_end (drop (i + 1) b))
+unfolding line_end
+end_past b i h n = rw (add-one, drop-cons b i 0 h, ne_eqb _ _ n)
+
+-- No line ends in no bytes: where they end.
+pub end_none : (b : List ℕ) (i : ℕ) → length b ≤ i → line_end (drop i b) ≡ 0
+unfolding line_end
+end_none b i h = rw (drop_of_length-le b h)
 
 -- The digit at i comes before those of the bytes after it ...
 pub digits_here : (front b : List ℕ) (i : ℕ) → i < length b → is_digit (get_or b i 0) ≡ true

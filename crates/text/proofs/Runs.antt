@@ -5,7 +5,7 @@ use mathlib.Core.List.{List, [], ◌∷◌, ◌++◌, append-nil, append_assoc}
 use mathlib.Core.Logic.{⊎_elim}
 use native.Mathlib.Omega.{arith}
 use borrow.Author.Tests.{lt-ltb, le-ltb}
-use lib.ListN.{length, take, drop}
+use lib.ListN.{length, take}
 use lib.Seq.{take_at, take_all}
 use Rattle.board.specs.Reply.{answer, pass}
 use Rattle.board.specs.Task.{task_check}
@@ -49,15 +49,20 @@ run_whole t r out accepted known few room =
     let counts : min (length_of t - 0) (length out / 2) ≡ length_of t = omega arith in
     run_accepts t r (accepted_routed t accepted r known) 0 out (omega arith) (λ some. omega arith) ∙ ap answer counts
 
+-- ... that is its letters ...
+pub whole_letters_lem : (t : List ℕ) → task_check t ≡ pass → (r : ℕ) → r < count_of t → length_of t ≤ most_moves
+    → (out : List ℕ) → length out ≡ 2 * most_moves → take (2 * length_of t) (run_writes t r 0 out) ≡ letters (task_route t r)
+whole_letters_lem t accepted r known few out room =
+    let moves = task_route t r in
+    let all : take (length_of t) moves ≡ moves = take_all (length_of t) moves (omega (arith, long t r accepted known)) in
+    rw ((run_answered t r 0 out (run_whole t r out accepted known few room)).wrote, all)
+    (take_at (letters moves) _ (2 * length_of t) (omega (arith, letters_length moves, long t r accepted known)))
+
 -- ... and its letters, put with spaces, are the route's text.
 pub run_text : (t : List ℕ) (r : ℕ) (out : List ℕ) → task_check t ≡ pass → r < count_of t → length_of t ≤ most_moves → length out ≡ 2000
     → spaced (take (2 * length_of t) (run_writes t r 0 out)) ≡ route_text (task_route t r)
 run_text t r out accepted known few room =
-    let moves = task_route t r in
-    let all : take (length_of t) moves ≡ moves = take_all (length_of t) moves (omega (arith, long t r accepted known)) in
-    let first = take_at (letters moves) (drop (2 * length_of t) out) (2 * length_of t) (omega (arith, letters_length moves, long t r accepted known)) in
-    rw ((run_answered t r 0 out (run_whole t r out accepted known few room)).wrote, all, first, spaced_letters)
-    (sym (short_route t r accepted known few))
+    rw (whole_letters_lem t accepted r known few out room, spaced_letters) (sym (short_route t r accepted known few))
 
 -- No lines come before the first route's ...
 pub lines_none : (front s t : List ℕ) → front ++ route_lines s t 0 ≡ front

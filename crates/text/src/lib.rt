@@ -10,9 +10,12 @@ ghost use Rattle.text.specs.Answer.{text_answer, answer_text, answered_page};
 ghost use Rattle.text.specs.Inner.Page.{bytes_reply};
 
 use board::Refusal;
+pub use put::PAGE;
 use put::{Page, put_line};
+pub use read::MOST;
 
 // The report of the task that an input is. Refuses with 12, 1, 2 and 3.
+#[tactic(auto, using(board::proofs::Replies::goes_up, crate::proofs::Answers::unread, crate::proofs::Answers::unplanned, crate::proofs::Answers::planned, crate::proofs::Answers::reported))]
 fn report_of(input: &[u8]) -> Result<Page, Refusal>
     ensures { bytes_reply result ≡ text_answer input.now }
 {
@@ -41,8 +44,9 @@ fn page_of(input: &[u8]) -> Page
 
 // The task program: puts the answer to the bytes of its standard input at the start of a page, and says how long it is. The other bytes
 // stay. Refuses with 12, 1, 2 and 3. The answer is made on a page of its own and copied, so that the lent page is written once.
+// Stays: an array with the length beside it, as `answered_page` of specs/Answer in the clause of this public function has it.
 #[tactic(auto, unfolding(crate::specs::Answer::answered_page))]
-pub fn answer(input: &[u8], page: &mut [u8; 8192]) -> usize
+pub fn answer(input: &[u8], page: &mut [u8; PAGE]) -> usize
     ensures value { result ≡ length (answer_text input.now) }
     ensures page_after { page.new ≡ answered_page input.now page.old }
     ensures upper_bound { result ≤ 8192 }

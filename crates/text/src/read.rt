@@ -9,7 +9,7 @@ use arrayvec::ArrayVec;
 use board::Refusal;
 
 // The most bytes of a text.
-const MOST: usize = 512;
+pub const MOST: usize = 512;
 
 // The digits of a text: no more than it has bytes.
 pub type Digits = ArrayVec<u8, MOST>;
@@ -71,13 +71,11 @@ fn next_after(input: &[u8]) -> Next
 fn is_text(input: &[u8]) -> bool
     ensures { result ≡ is_text input.now }
 {
-    if MOST < input.len() {
-        return false;
-    }
-    newlines(input) == 2 && next_after(input).is_bracket()
+    input.len() <= MOST && newlines(input) == 2 && next_after(input).is_bracket()
 }
 
 // Where the first line ends.
+// Stays: the length and no `Option` where no line ends, as `line_end` of specs/Reading has it.
 fn line_end(input: &[u8]) -> usize
     ensures value { result ≡ line_end input.now }
     ensures bound { result ≤ length input.now }

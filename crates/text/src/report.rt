@@ -1,5 +1,5 @@
 // The report of a task, line by line.
-ghost use Rattle.std.specs.Prelude.{◌++◌, ◌≡◌, ◌+◌, ◌*◌, ◌<◌, ◌≤◌, length};
+ghost use Rattle.std.specs.Prelude.{◌++◌, ◌≡◌, ◌+◌, ◌*◌, ◌/◌, ◌<◌, ◌≤◌, length};
 ghost use Rattle.arrayvec.specs.ArrayVec.{array_vec_len};
 ghost use Rattle.text.specs.Inner.Page.{spaced};
 ghost use Rattle.text.specs.Report.{length_lines, head_text, route_text, route_line, report_text};
@@ -43,19 +43,22 @@ fn put_head(page: &mut Page, plan: Plan)
 }
 
 // Puts moves, each a space and two of the letters.
-#[tactic(auto, using(crate::proofs::Page::spaced_pair, crate::proofs::Page::spaced_few))]
+#[tactic(auto, using(crate::proofs::Page::spaced_pair, crate::proofs::Page::spaced_end))]
 fn put_moves(page: &mut Page, letters: &[u8])
-    requires { 2 * array_vec_len page.old + 3 * length letters.now ≤ 16384 }
+    requires { array_vec_len page.old + 3 * (length letters.now / 2) ≤ 8192 }
     ensures items { page.new.items ≡ page.old.items ++ spaced letters.now }
-    ensures upper_bound { 2 * array_vec_len page.new ≤ 2 * array_vec_len page.old + 3 * length letters.now }
+    ensures len { array_vec_len page.new ≡ array_vec_len page.old + 3 * (length letters.now / 2) }
 {
-    for pair in letters.chunks_exact(2) {
+    let (pairs, _) = letters.as_chunks::<2>();
+    for pair in pairs {
         page.push(b' ');
         put(page, pair);
     }
 }
 
 // Puts the moves of a route, or the word long.
+// Stays: the bytes, a route and its moves under a clause, here, in the line of a route and in the report, and no `Opened`, which would be no
+// plainer: Run takes the bytes, and a public `run_from` would be a second way into Run.
 #[tactic(auto, using(crate::proofs::Runs::long_route, crate::proofs::Runs::run_whole, crate::proofs::Runs::run_text))]
 fn put_route(page: &mut Page, task: &[u8], route: u64, moves: u64)
     requires room { array_vec_len page.old + 3000 ≤ 8192 }
@@ -73,6 +76,7 @@ fn put_route(page: &mut Page, task: &[u8], route: u64, moves: u64)
 }
 
 // Puts the line of a route.
+#[tactic(auto, using(crate::proofs::Numbers::decimal_fits))]
 fn put_route_line(page: &mut Page, task: &[u8], route: u64, moves: u64)
     requires room { array_vec_len page.old + 3021 ≤ 8192 }
     requires task_value { (task_check task.now ≡ pass) × (route < count_of task.now) × (moves ≡ length_of task.now) }
@@ -84,14 +88,14 @@ fn put_route_line(page: &mut Page, task: &[u8], route: u64, moves: u64)
     put(page, b"\n");
 }
 
-// Puts the report of a task.
-// Stays: the bytes beside their plan and no `Opened`, since Run takes the bytes.
+// Puts the report of a task at the start of a page.
 #[tactic(auto, using(crate::proofs::Runs::lines_none, crate::proofs::Runs::lines_more, crate::proofs::Runs::few_routes), unfolding(crate::specs::Report::report_text))]
 pub fn put_report(page: &mut Page, task: &[u8], plan: Plan)
-    requires room { array_vec_len page.old + 6183 ≤ 8192 }
-    requires task_value { (task_check task.now ≡ pass) × (plan ≡ plan_of (start task.now) (goal task.now)) }
-    ensures { page.new.items ≡ page.old.items ++ report_text (start task.now) (goal task.now) }
+    requires { (task_check task.now ≡ pass) × (plan ≡ plan_of (start task.now) (goal task.now)) }
+    ensures items { page.new.items ≡ report_text (start task.now) (goal task.now) }
+    ensures upper_bound { array_vec_len page.new ≤ 8192 }
 {
+    page.clear();
     put_head(page, plan);
     for route in 0..plan.routes() {
         put_route_line(page, task, route, plan.shortest());

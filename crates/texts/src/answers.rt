@@ -2,7 +2,7 @@
 use std::io;
 
 pub fn answer_to(rt: &impl Print, name: &str, input: &str) -> io::Result<()> {
-    let mut page = [0; 8192];
+    let mut page = [0; text::PAGE];
     let end = text::answer(input.as_bytes(), &mut page);
     println!(rt; "{name}:")?;
     rt.write_all(&page[..end])

@@ -1,18 +1,20 @@
 -- What Wear answers, and when: the laws for whoever calls it.
-use Prim.Native.Nat.{ℕ, ◌≤◌}
+use Prim.Native.Nat.{ℕ, ◌≤◌, ◌<◌}
 use mathlib.Core.List.{List, ◌++◌}
-use mathlib.Core.Path.{◌≡◌, sym}
-use borrow.Author.Tests.{ltb-false, le-ltb}
+use mathlib.Core.Path.{◌≡◌, refl, sym}
+use native.Mathlib.Omega.{arith}
+use borrow.Author.Tests.{ltb-false, lt-ltb, le-ltb}
 use lib.Dec.{ltb}
 use lib.ListN.{length, drop}
 use Rattle.board.specs.Fault.{Obeys}
-use Rattle.board.specs.Reply.{refused, pass}
+use Rattle.board.specs.Reply.{refused, answer, pass}
 use Rattle.board.specs.Task.{limit, discs}
 use Rattle.board.proofs.Obeys.{check_obeys, then_obeys}
 use Rattle.board.proofs.Replies.{then_answered, check_passed}
 use Rattle.route.specs.Answer.{route_check}
 use Rattle.route.proofs.Calls.Lists.{below}
-use Rattle.route.proofs.Calls.Opened.{Routed, route_passed, route_passes, route_obeys}
+use Rattle.route.specs.Inner.Open.{Opening, open_answer}
+use Rattle.route.proofs.Calls.Opened.{Routed, route_passed, route_passes, route_obeys, open_answered, open_refused, opened_discs}
 use Rattle.wear.specs.Answer.{wear_answer, wear_writes}
 use Rattle.wear.specs.Faults.{wear_faults}
 use Rattle.wear.specs.Wear.{wears_of}
@@ -56,8 +58,21 @@ wear_answered t r out e =
       sized = rw wrote (wears_sized (discs t) _ out room);
     }
 
--- Where the route's checks pass and there is an entry for each disc, it accepts and writes the wears.
-pub wear_passes : (t : List ℕ) (r : ℕ) (out : List ℕ) → route_check t r ≡ pass → discs t ≤ length out
-    → (pass ≡ wear_answer t r out) × (wears_of t r ++ drop (discs t) out ≡ wear_writes t r out)
-wear_passes t r out passed room =
-    let accepted = wear_accepts t r out (route_passed t r passed) room in (sym accepted, sym (wear_answered t r out accepted).wrote)
+-- A refusal to open the task at the route is Wear's, and nothing is written.
+pub unopened : (t : List ℕ) (r : ℕ) (out : List ℕ) {k : ℕ} → refused k ≡ open_answer t r → (refused k ≡ wear_answer t r out) × (out ≡ wear_writes t r out)
+unfolding wear_answer wear_writes
+unopened t r out e = rw (← open_refused t r e) (refl, refl)
+
+module _ (t : List ℕ) (r : ℕ) (out : List ℕ) {o : Opening} (e : answer o ≡ open_answer t r) where
+  -- So is 6 where an entry is missing.
+  pub short : length out < length o.start → (refused 6 ≡ wear_answer t r out) × (out ≡ wear_writes t r out)
+  unfolding wear_answer wear_writes
+  short less =
+      let o = open_answered t r e in rw (o.passed, lt-ltb (length out) (discs t) (omega (arith, opened_discs o))) (refl, refl)
+
+  -- Else it accepts, and the wears are written.
+  pub written : length o.start ≤ length out → (pass ≡ wear_answer t r out) × (wears_of t r ++ drop (discs t) out ≡ wear_writes t r out)
+  written room =
+      let o = open_answered t r e in
+      let yes = wear_accepts t r out (route_passed t r o.passed) (omega (arith, opened_discs o)) in
+      (sym yes, sym (wear_answered t r out yes).wrote)

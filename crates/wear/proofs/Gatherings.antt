@@ -73,7 +73,8 @@ tower_wear (suc k) d {x} {y} {z} h l =
           ))
     ]
 
--- A smaller disc moves as often as in the gathering of the smaller discs, and where the largest crosses also as in the tower that follows it.
+-- A smaller disc moves as often as in the gathering of the smaller discs, and where the largest crosses also as in the tower that follows
+-- it.
 pub gathering_smaller : (p : ℕ → ℕ) (k j d : ℕ) → p k < 3 → j < 3 → d < k
     → wear (suc d) (gathering p (suc k) j) ≡ off_target (p k) j * 2 ^ (k - suc d) + wear (suc d) (gathering p k (third j (p k)))
 gathering_smaller p k j d hp hj l =

@@ -12,6 +12,7 @@ use lib.Seq.{length-take-le, set_split, drop_at, drop-drop}
 use mir.Val.{bool_byte}
 use Rattle.board.specs.Peg.{third}
 use Rattle.board.specs.Position.{peg}
+use Rattle.board.proofs.Formed.{formed_pegs}
 use Rattle.board.proofs.Pegs.{third_peg}
 use Rattle.plan.specs.Inner.Sound.{Ends}
 use Rattle.plan.specs.Inner.Together.{added}
@@ -82,6 +83,14 @@ module _ {s t : List ℕ} {m : ℕ} {above : Gaps} {out : List ℕ} (ready : Wri
         ≡ wears_below (peg s) (peg t) m above.first above.last above.between ++ drop m out
     below_stored =
         rw (first, last, counted) (below_last (peg s) (peg t) m above.first above.last above.between out some ready.room)
+
+-- With no disc left nothing is left to write.
+pub below_none : (p q : ℕ → ℕ) (m i j gaps : ℕ) (o : List ℕ) → m ≡ 0 → wears_below p q m i j gaps ++ drop m o ≡ o
+unfolding wears_below
+below_none p q m i j gaps o e = rw e
+
+-- Disc by disc.
+pub ruleset below_steps = (formed_pegs, moves_fit, below_none)
 
 -- The largest disc that moves is one of the discs.
 pub opened_largest : (o : Opened) → o.plan.largest ≤ length o.task.start.now

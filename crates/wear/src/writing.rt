@@ -12,6 +12,8 @@ use route::course::is_detour;
 
 // The moves of larger discs as the next disc meets them: its peg at the first of them, its peg at the last, and how many gaps there are
 // between one and the next.
+// Stays: beside plan's `Gathers`, whose step is the same of a sum: with it a disc's own moves, which are written, would have to be taken back
+// as a difference of two sums, which is no plainer.
 #[derive(Clone, Copy)]
 struct Gaps {
     first: u8,
@@ -21,7 +23,7 @@ struct Gaps {
 
 // Writes the wears of the k smallest discs. A disc moves once in each gap, to make way, and once more before the first of the larger
 // discs' moves or after the last where it starts or ends elsewhere; each of its moves is one gap more for the next.
-#[tactic(auto, using(crate::proofs::Stored::moves_fit))]
+#[tactic(auto, using(crate::proofs::Stored::below_steps))]
 fn write_smaller(task: &Task, k: usize, above: Gaps, out: &mut [u64])
     requires { Writable task.now.start.now task.now.goal.now k above out.old }
     ensures { out.new ≡ wears_below (peg task.now.start.now) (peg task.now.goal.now) k above.first above.last above.between ++ drop k out.old }

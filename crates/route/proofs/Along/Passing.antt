@@ -4,11 +4,12 @@ use mathlib.Core.Path.{◌≡◌, ◌∙◌, refl, fun_ext}
 use mathlib.Core.Logic.{◌≢◌}
 use mathlib.Core.List.{List}
 use native.Mathlib.Omega.{arith}
-use Rattle.std.specs.Prelude.{Option, Some, None}
+use Rattle.std.specs.Prelude.{Option, Some, None, unwrap_or}
 use Rattle.board.specs.Peg.{third}
 use Rattle.board.specs.Position.{peg, WellFormed}
 use Rattle.board.proofs.Pegs.{third_peg}
 use Rattle.board.proofs.Formed.{formed_pegs}
+use Rattle.plan.proofs.Fits.{tower_more, tower_fits}
 use Rattle.plan.proofs.Gathering.{Pegs}
 use Rattle.route.specs.Inner.Along.{stacked, IsPeg, Passes}
 use Rattle.route.proofs.Along.Along.{along_home, along_before, along_after_below, along_after_here, along_above}
@@ -22,6 +23,12 @@ stacked_tower p t = fun_ext (λ d. refl)
 pub stacked_none : (p : List ℕ) → stacked p None ≡ peg p
 unfolding stacked
 stacked_none p = fun_ext (λ d. refl)
+
+-- The peg of a disc, of the tower or of the position.
+pub tower_or : (p : List ℕ) (t : Option ℕ) (k : ℕ) → unwrap_or t (peg p k) ≡ stacked p t k
+unfolding stacked
+tower_or p (Some t) k = refl
+tower_or p None k = refl
 
 -- Either way every disc is on a peg.
 pub stacked_pegs : (p : List ℕ) (t : Option ℕ) → WellFormed p → IsPeg t → Pegs (stacked p t)
@@ -60,3 +67,6 @@ module _ (p : List ℕ) (k j r : ℕ) (t : Option ℕ) (hj : j < 3) (on : IsPeg 
         target = hj;
         tower = third_peg j (stacked p t k) hj;
       }
+
+-- How a disc is passed.
+pub ruleset passing = (tower_or, tower_more, tower_fits, stacked_pegs, pass_home, pass_before, pass_after)

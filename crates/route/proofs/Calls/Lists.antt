@@ -16,8 +16,8 @@ use Rattle.board.proofs.Replies.{answer_same, then_answered, then_refused, then_
 use Rattle.plan.specs.Plan.{plan_of}
 use Rattle.route.specs.Answer.{length_of, route_check}
 use Rattle.route.specs.Faults.{route_faults}
-use Rattle.route.specs.Inner.Open.{Opening, opening, open_answer, list_check, list_answer}
-use Rattle.route.proofs.Calls.Opened.{Routed, opening_parts, route_passed, route_passes, open_refused, route_obeys}
+use Rattle.route.specs.Inner.Open.{Opening, list_check, list_answer}
+use Rattle.route.proofs.Calls.Opened.{Routed, opening_parts, route_passed, route_passes, route_obeys}
 
 -- A test passes exactly where one number is below another.
 pub below : (a b : ℕ) → (ltb a b ≡ true) ↔ (a < b)
@@ -100,23 +100,3 @@ module _ (t : List ℕ) (r i room size : ℕ) where
   pub list_refused : {k : ℕ} → refused k ≡ list_answer t r i room size → refused k ≡ list_check t r i room size
   unfolding list_answer
   list_refused e = sym (then_refused (list_check t r i room size) _ (sym e))
-
-  -- What cannot be opened is not opened for a list.
-  pub open_unlisted : {k : ℕ} → refused k ≡ open_answer t r → refused k ≡ list_answer t r i room size
-  unfolding list_answer list_check
-  open_unlisted e = rw (← open_refused t r e)
-
-  -- An index above the length is refused with 5.
-  pub index_unlisted : route_check t r ≡ pass → length_of t < i → refused 5 ≡ list_answer t r i room size
-  unfolding list_answer list_check
-  index_unlisted passed h = rw (passed, lt-ltb (length_of t) i h)
-
-  -- Moves without room for one are refused with 6.
-  pub room_unlisted : route_check t r ≡ pass → i < length_of t → room < size → refused 6 ≡ list_answer t r i room size
-  unfolding list_answer list_check
-  room_unlisted passed some less = rw (passed, le-ltb (length_of t) i (omega arith), lt-ltb i (length_of t) some, lt-ltb room size less)
-
-  -- Where all is there it is answered.
-  pub listed_answer : Listed → answer (opening t r) ≡ list_answer t r i room size
-  unfolding list_answer
-  listed_answer l = rw (list_passes l)

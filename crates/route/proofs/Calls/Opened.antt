@@ -1,4 +1,4 @@
--- What Move, Place, Run and Parts know once the task faults and the route number are passed.
+-- What Move, Place, Run, Parts and Wear know once the task faults and the route number are passed.
 use Prim.Native.Nat.{ℕ, ◌<◌}
 use mathlib.Core.Bool.{not}
 use mathlib.Core.List.{List}
@@ -13,6 +13,7 @@ use Rattle.board.proofs.Obeys.{check_obeys, then_obeys}
 use Rattle.board.proofs.Replies.{answer_same, then_answered, then_refused, check_passed}
 use Rattle.board.proofs.Tasks.{SoundTask, task_accepted, task_obeys}
 use Rattle.plan.specs.Inner.Read.{read_answer}
+use Rattle.plan.proofs.Calls.{read_ends}
 use Rattle.plan.specs.Plan.{plan_of, shortest}
 use Rattle.route.specs.Answer.{length_of, count_of, route_check}
 use Rattle.route.specs.Faults.{route_faults}
@@ -96,3 +97,9 @@ route_obeys t r =
     then_obeys (task_obeys t)
     (check_obeys (not (ltb r (count_of t))) 4
     ((λ e. ltb-false r (count_of t) (not-true (ltb r (count_of t)) e)), λ h. rw (le-ltb r (count_of t) h)))
+
+-- How a task is opened.
+pub ruleset read_opened = (read_unopened, read_ends)
+
+-- What is known of what is opened.
+pub ruleset opens = (open_refused, open_answered, opened_is, opened_length)

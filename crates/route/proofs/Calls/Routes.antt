@@ -29,9 +29,13 @@ module _ (o : Opened) where
   index_below : {i : ℕ} → i < shortest o.plan → i < shortest (plan_of from to)
   index_below h = rw o.planned at h
 
-  -- Where there is such an index, some disc moves.
+  -- Where there is a move, some disc moves.
+  pub largest_some : 0 < shortest o.plan → 0 < o.plan.largest
+  largest_some h = rw o.planned (moves_some from to (index_below h))
+
+  -- So one does where there is such an index.
   pub some_moves : {i : ℕ} → i < shortest o.plan → 0 < o.plan.largest
-  some_moves h = rw o.planned (moves_some from to (omega (arith, index_below h)))
+  some_moves h = largest_some (omega (arith, h))
 
   module _ (moves : 0 < o.plan.largest) {c : Course} (is : c ≡ course_of from to o.route) where
     -- The disc of its course is one of the task's, and its pegs are pegs.
@@ -54,12 +58,16 @@ module _ (o : Opened) where
     pub opened_part : part_at (parts_of from to o.route) i ≡ stage_part (stage_of c i)
     opened_part = rw is (route_part from to o.task.ends o.route i (rw o.planned at o.known) (index_below h))
 
-  module _ {i : ℕ} (h : i ≤ shortest o.plan) (a : List ℕ) (room : length from ≤ length a) where
+  module _ {i : ℕ} (h : i ≤ shortest o.plan) where
     -- The position at an index has the pegs of its stage.
-    pub opened_place : 0 < o.plan.largest → ((d : ℕ) → d < length from → get_or a d 0 ≡ stage_peg (peg from) (peg to) (course_of from to o.route) (stage_of (course_of from to o.route) i) d)
+    pub opened_place : (a : List ℕ) → length from ≤ length a → 0 < o.plan.largest
+        → ((d : ℕ) → d < length from → get_or a d 0 ≡ stage_peg (peg from) (peg to) (course_of from to o.route) (stage_of (course_of from to o.route) i) d)
         → take (length from) a ≡ after from (take i (route_of from to o.route))
-    opened_place moves = placed from to a o.task.ends o.route i (rw o.planned at moves) (rw o.planned at h) room
+    opened_place a room moves = placed from to a o.task.ends o.route i (rw o.planned at moves) (rw o.planned at h) room
 
-    -- Where no disc moves it has the start's.
-    pub opened_still : o.plan.largest ≡ 0 → ((d : ℕ) → d < length from → get_or a d 0 ≡ peg from d) → take (length from) a ≡ after from (take i (route_of from to o.route))
-    opened_still still = placed_still from to a o.route i (rw o.planned at still) (rw o.planned at h) room
+    -- Where no disc moves it is the start.
+    pub opened_still : o.plan.largest ≡ 0 → after from (take i (route_of from to o.route)) ≡ from
+    opened_still still = placed_still from to o.route i (rw o.planned at still) (rw o.planned at h)
+
+-- What is known of its course.
+pub ruleset opened_course = (largest_some, opened_fits, opened_within, opened_stage, opened_move, opened_part, opened_place)

@@ -147,11 +147,7 @@ placed s t a e r i moves l room at =
     (λ d g. get_or-take (length s) a d 0 (omega arith) ∙ at d (omega arith) ∙ sym (w.pegs d))
 
 -- Where no disc moves, the position stays the start.
-pub placed_still : (s t a : List ℕ) (r i : ℕ) → (plan_of s t).largest ≡ 0 → i ≤ shortest (plan_of s t) → length s ≤ length a
-    → ((d : ℕ) → d < length s → get_or a d 0 ≡ peg s d)
-    → take (length s) a ≡ after s (take i (route_of s t r))
+pub placed_still : (s t : List ℕ) (r i : ℕ) → (plan_of s t).largest ≡ 0 → i ≤ shortest (plan_of s t) → after s (take i (route_of s t r)) ≡ s
 unfolding after
-placed_still s t a r i still l room at =
-    let none : i ≡ 0 = omega (arith, still_none s t still) in
-    let size : length (take (length s) a) ≡ length s = length-take-le (length s) a room in
-    rw none (ext_get_or 0 (take (length s) a) s size (λ d g. get_or-take (length s) a d 0 (omega arith) ∙ at d (omega arith)))
+placed_still s t r i still l =
+    let none : i ≡ 0 = omega (arith, still_none s t still) in rw none refl

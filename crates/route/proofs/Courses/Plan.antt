@@ -10,7 +10,9 @@ use Rattle.board.proofs.Formed.{formed_pegs}
 use Rattle.board.proofs.Pegs.{third_peg}
 use Rattle.plan.specs.Plan.{largest, plan_by, plan_of}
 use Rattle.plan.specs.Inner.Sound.{Ends}
+use Rattle.plan.proofs.Bounds.{plan_fits}
 use Rattle.plan.proofs.Largest.{largest_le}
+use Rattle.plan.proofs.Sound.{start_gatherable}
 use Rattle.route.specs.Inner.Stage.{first_peg, last_peg, course_by, course_of, CourseFits}
 use Rattle.route.specs.declared.course.Course.{Course}
 
@@ -64,3 +66,6 @@ first_peg_fits {c} f = either_peg c.detour f.to_peg f.free_peg
 -- They are spread from a peg after the last.
 pub last_peg_fits : {c : Course} {n : ℕ} → CourseFits c n → last_peg c < 3
 last_peg_fits {c} f = either_peg c.detour f.from_peg f.free_peg
+
+-- What a course is made of.
+pub ruleset course_ready = (plan_pegs, plan_largest, plan_fits, third_peg, either_peg, start_gatherable)

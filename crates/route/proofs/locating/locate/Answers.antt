@@ -1,17 +1,9 @@
 -- The task is read, and a position of its size and of pegs is located on it.
 use mathlib.Core.Path.{◌∙◌, sym}
 use borrow.Author.Tests.{eq-eqb, ne_eqb}
-use Rattle.std.proofs.lemmas.Result.{err_from_is_err_and}
-use Rattle.plan.proofs.Calls.{read_ends, read_discs, read_faulty}
+use Rattle.plan.proofs.Calls.{read_ends, read_discs}
 use Rattle.route.specs.Answer.{locate_answer}
 use Rattle.route.proofs.locating.locate.Goals as goal
-
--- The task is refused.
-pub returns-in_err-task : goal.returns-in_err-task
-unfolding locate_answer
-returns-in_err-task c =
-    let p = err_from_is_err_and c.from_residual.result c.from_residual.ensures.1 in
-    rw (p.1, p.2, ← read_faulty _ c.in_err-task.ensures)
 
 -- The position has another size.
 pub returns-then-position-discs : goal.returns-then-position-discs

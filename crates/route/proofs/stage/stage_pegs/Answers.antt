@@ -14,7 +14,7 @@ use Rattle.board.specs.Task.{limit}
 use Rattle.route.specs.Inner.Along.{along, Along}
 use Rattle.route.specs.Inner.Stage.{stage_peg}
 use Rattle.route.proofs.Along.Along.{along_above}
-use Rattle.route.proofs.Along.Towers.{tower_gatherable, tower_along}
+use Rattle.route.proofs.Along.Towers.{tower_along}
 use Rattle.route.proofs.stage.stage_pegs.Goals as goal
 
 -- The pegs along the gathering of a position, with its larger discs, are those of all its discs.
@@ -40,24 +40,21 @@ joined_tower p b x f {k = k} {j} {r} d h hk hb e =
       ]
     ]
 
-pub invariant_of-shift : goal.invariant_of-shift
-invariant_of-shift c =
-    record { ready = tower_gatherable _ _ _ c.requires.to_peg (omega arith) c.requires.from_peg }
-
 -- The smaller discs are being gathered.
 pub returns-in-Gathering : goal.returns-in-Gathering
 unfolding stage_peg
 returns-in-Gathering c d l =
-    rw (c.in-Gathering.is, ← c.first_peg.ensures)
-    (joined_along d c.pegs_along.ensures (c.with_larger.ensures d l))
+    let g = rw c.in-Gathering.is at c.gathering-gathering.ensures in
+    rw c.in-Gathering.is (joined_along d (rw (g.position_value, g.discs_value, g.target_value) at c.pegs_along.ensures) (c.with_larger.ensures d l))
 
 -- They are being shifted.
 pub returns-in-Shifting : goal.returns-in-Shifting
 unfolding stage_peg
 returns-in-Shifting c d l =
+    let g = rw c.in-Shifting.is at c.gathering-gathering.ensures in
     rw c.in-Shifting.is
     (joined_tower c.args.task.now.start.now c.with_larger-pegs.result c.args.course.to c.args.course.free d
-    c.pegs_along-in-Shifting.ensures
+    (rw (g.position_value, g.discs_value, g.target_value) at c.pegs_along-in-Shifting.ensures)
     (omega (arith, c.requires.disc_there, c.args.task.now.ends.within))
     (omega arith)
     (c.with_larger-pegs.ensures d l))
@@ -66,5 +63,5 @@ returns-in-Shifting c d l =
 pub returns-in-Spreading : goal.returns-in-Spreading
 unfolding stage_peg
 returns-in-Spreading c d l =
-    rw (c.in-Spreading.is, ← c.last_peg.ensures)
-    (joined_along d c.pegs_along-in-Spreading.ensures (c.with_larger-in-Spreading.ensures d (omega arith)))
+    let g = rw c.in-Spreading.is at c.gathering-gathering.ensures in
+    rw c.in-Spreading.is (joined_along d (rw (g.position_value, g.discs_value, g.target_value) at c.pegs_along-in-Spreading.ensures) (c.with_larger-in-Spreading.ensures d (omega arith)))

@@ -1,5 +1,4 @@
 -- The letters of i moves are stored, and the pegs and the turn are those of the gatherer after them.
-use Prim.Native.Nat.{◌*◌}
 use mathlib.Core.Path.{◌≡◌}
 use lib.Seq.{sets}
 use Rattle.run.specs.Inner.Gatherer.{gatherer, gathers_from, gather_letters}
@@ -9,5 +8,5 @@ abbrev pub invariant-loop-i : goal.invariant-loop-i
 invariant-loop-i l =
     record {
       gatherer_after : gatherer l.pegs l.turn ≡ gathers_from (gatherer l.initial.pegs l.initial.turn) l.i;
-      written : l.out ≡ sets l.initial.out (2 * l.at) (gather_letters (gatherer l.initial.pegs l.initial.turn) l.i);
+      written : l.out ≡ sets l.initial.out 0 (gather_letters (gatherer l.initial.pegs l.initial.turn) l.i);
     }

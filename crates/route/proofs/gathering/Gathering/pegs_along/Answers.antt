@@ -1,13 +1,12 @@
 -- Each disc is passed once, from the largest downwards.
 use Prim.Native.Nat.{ℕ, suc, ◌-◌, ◌≤◌, ◌<◌}
-use mathlib.Core.Path.{◌≡◌, refl}
+use mathlib.Core.Path.{◌≡◌}
 use mathlib.Core.List.{List}
 use native.Mathlib.Decide.{ℕ_discrete}
 use native.Mathlib.Omega.{arith}
 use lib.ListN.{length, get_or, set, length-set}
 use lib.Seq.{get_or-set_same, get_or-set_other}
 use Rattle.board.proofs.Formed.{formed_pegs}
-use Rattle.route.specs.Inner.Along.{stacked}
 use Rattle.route.proofs.Along.Along.{along_pegs}
 use Rattle.route.proofs.gathering.Gathering.pegs_along.Goals as goal
 
@@ -19,19 +18,6 @@ from_less a m x hm e old d l h =
       | yes s ↦ rw (s, get_or-set_same a m x 0 hm) e
       | no n ↦ rw (get_or-set_other a m d x 0 n) (old d (omega arith) h)
     ]
-
-pub loop-m-init : goal.loop-m-init
-unfolding stacked
-loop-m-init c =
-    record { goal_peg = c.args.self.now.ready.target; tower_peg = tt; size = refl; left = λ d l. refl; done = λ d l h. absurd (omega arith) }
-
-pub pass-passed-requires : goal.pass-passed-requires
-pass-passed-requires c =
-    record {
-      gatherable =
-          record { there = omega arith; within = omega arith; formed = c.args.self.now.ready.formed; target = c.loop-m.invariant.goal_peg };
-      tower_peg = c.loop-m.invariant.tower_peg;
-    }
 
 -- Disc m is passed.
 pub loop-m-preserved : goal.loop-m-preserved

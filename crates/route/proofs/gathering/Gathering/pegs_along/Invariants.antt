@@ -10,9 +10,9 @@ use Rattle.route.proofs.gathering.Gathering.pegs_along.Given as goal
 abbrev pub invariant-loop-m : goal.invariant-loop-m
 invariant-loop-m l =
     record {
-      goal_peg : l.goal < 3;
-      tower_peg : IsPeg l.tower;
+      goal_peg : l.passed.goal < 3;
+      tower_peg : IsPeg l.passed.tower;
       size : length l.pegs ≡ limit;
-      left : (d : ℕ) → d < l.m → along (stacked l.self.position.now l.tower) l.m l.goal l.rest d ≡ along (peg l.self.position.now) l.self.discs l.self.target l.left d;
+      left : (d : ℕ) → d < l.m → along (stacked l.self.position.now l.passed.tower) l.m l.passed.goal l.passed.rest d ≡ along (peg l.self.position.now) l.self.discs l.self.target l.left d;
       done : (d : ℕ) → l.m ≤ d → d < l.self.discs → get_or l.pegs d 0 ≡ along (peg l.self.position.now) l.self.discs l.self.target l.left d;
     }

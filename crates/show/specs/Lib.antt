@@ -1,0 +1,2 @@
+-- What the programs print of an answer, of a position and of a session record.
+pub mod Printed
