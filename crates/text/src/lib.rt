@@ -1,6 +1,7 @@
 // The task program on byte slices: its reader and its report.
 #![tactic(auto)]
 
+mod list;
 mod put;
 mod read;
 mod report;
@@ -52,6 +53,6 @@ pub fn answer(input: &[u8], page: &mut [u8; PAGE]) -> usize
     ensures upper_bound { result ≤ 8192 }
 {
     let own = page_of(input);
-    page[..own.len()].copy_from_slice(&own);
+    page[..own.len()].copy_from_slice(own.as_slice());
     own.len()
 }

@@ -1,18 +1,17 @@
 // The reader: two lines, each a position in single digits.
 ghost use Rattle.std.specs.Prelude.{◌++◌, ◌≡◌, ◌+◌, ◌≤◌, length};
-ghost use Rattle.arrayvec.specs.ArrayVec.{array_vec_len};
 ghost use Rattle.text.specs.Inner.Page.{bytes_reply, read_answer};
 ghost use Rattle.text.specs.Reading.{follow, follow_all, lines, is_bracket, is_text, digits as digits_of, line_end};
 ghost use Rattle.text.specs.declared.read.Next.TheVariants.{Bracket};
 
-use arrayvec::ArrayVec;
+use crate::list::List;
 use board::Refusal;
 
 // The most bytes of a text.
 pub const MOST: usize = 512;
 
 // The digits of a text: no more than it has bytes.
-pub type Digits = ArrayVec<u8, MOST>;
+pub type Digits = List<MOST>;
 
 // What may come next in a text.
 #[derive(Clone, Copy)]
@@ -89,7 +88,7 @@ fn line_end(input: &[u8]) -> usize
 // Puts the digits among some bytes onto a list of digits.
 #[tactic(auto, using(std::proofs::lemmas::Bool::Decides::nat_tests, crate::proofs::Reading::digits_here, crate::proofs::Reading::digits_past, crate::proofs::Reading::digits_none), unfolding(crate::specs::Reading::is_digit))]
 fn put_digits(digits: &mut Digits, bytes: &[u8])
-    requires { array_vec_len digits.old + length bytes.now ≤ 512 }
+    requires { length digits.old.items + length bytes.now ≤ 512 }
     ensures { digits.new.items ≡ digits.old.items ++ digits_of bytes.now }
 {
     for byte in bytes {

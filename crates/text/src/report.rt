@@ -1,6 +1,5 @@
 // The report of a task, line by line.
 ghost use Rattle.std.specs.Prelude.{◌++◌, ◌≡◌, ◌+◌, ◌*◌, ◌/◌, ◌<◌, ◌≤◌, length};
-ghost use Rattle.arrayvec.specs.ArrayVec.{array_vec_len};
 ghost use Rattle.text.specs.Inner.Page.{spaced};
 ghost use Rattle.text.specs.Report.{length_lines, head_text, route_text, route_line, report_text};
 ghost use Rattle.board.specs.Reply.{pass};
@@ -16,9 +15,9 @@ const MOST_MOVES: u64 = 1000;
 
 // Puts the lines of the two plan lengths; still has none.
 fn put_lengths(page: &mut Page, way: Way)
-    requires { array_vec_len page.old + 56 ≤ 8192 }
+    requires { length page.old.items + 56 ≤ 8192 }
     ensures items { page.new.items ≡ page.old.items ++ length_lines way }
-    ensures upper_bound { array_vec_len page.new ≤ array_vec_len page.old + 56 }
+    ensures upper_bound { length page.new.items ≤ length page.old.items + 56 }
 {
     match way {
         Way::Still => put(page, b"direct -\ndetour -\n"),
@@ -32,9 +31,9 @@ fn put_lengths(page: &mut Page, way: Way)
 // Puts the lines above the routes.
 #[tactic(auto, unfolding(crate::specs::Report::head_text))]
 fn put_head(page: &mut Page, plan: Plan)
-    requires { array_vec_len page.old + 141 ≤ 8192 }
+    requires { length page.old.items + 141 ≤ 8192 }
     ensures items { page.new.items ≡ page.old.items ++ head_text plan }
-    ensures upper_bound { array_vec_len page.new ≤ array_vec_len page.old + 141 }
+    ensures upper_bound { length page.new.items ≤ length page.old.items + 141 }
 {
     put_line(page, b"discs ", plan.discs as u64);
     put_lengths(page, plan.way);
@@ -45,9 +44,9 @@ fn put_head(page: &mut Page, plan: Plan)
 // Puts moves, each a space and two of the letters.
 #[tactic(auto, using(crate::proofs::Page::spaced_pair, crate::proofs::Page::spaced_end))]
 fn put_moves(page: &mut Page, letters: &[u8])
-    requires { array_vec_len page.old + 3 * (length letters.now / 2) ≤ 8192 }
+    requires { length page.old.items + 3 * (length letters.now / 2) ≤ 8192 }
     ensures items { page.new.items ≡ page.old.items ++ spaced letters.now }
-    ensures len { array_vec_len page.new ≡ array_vec_len page.old + 3 * (length letters.now / 2) }
+    ensures len { length page.new.items ≡ length page.old.items + 3 * (length letters.now / 2) }
 {
     let (pairs, _) = letters.as_chunks::<2>();
     for pair in pairs {
@@ -61,10 +60,10 @@ fn put_moves(page: &mut Page, letters: &[u8])
 // plainer: Run takes the bytes, and a public `run_from` would be a second way into Run.
 #[tactic(auto, using(crate::proofs::Runs::long_route, crate::proofs::Runs::run_whole, crate::proofs::Runs::run_text))]
 fn put_route(page: &mut Page, task: &[u8], route: u64, moves: u64)
-    requires room { array_vec_len page.old + 3000 ≤ 8192 }
+    requires room { length page.old.items + 3000 ≤ 8192 }
     requires task_value { (task_check task.now ≡ pass) × (route < count_of task.now) × (moves ≡ length_of task.now) }
     ensures items { page.new.items ≡ page.old.items ++ route_text (task_route task.now route) }
-    ensures upper_bound { array_vec_len page.new ≤ array_vec_len page.old + 3000 }
+    ensures upper_bound { length page.new.items ≤ length page.old.items + 3000 }
 {
     if MOST_MOVES < moves {
         put(page, b" long");
@@ -78,10 +77,10 @@ fn put_route(page: &mut Page, task: &[u8], route: u64, moves: u64)
 // Puts the line of a route.
 #[tactic(auto, using(crate::proofs::Numbers::decimal_fits))]
 fn put_route_line(page: &mut Page, task: &[u8], route: u64, moves: u64)
-    requires room { array_vec_len page.old + 3021 ≤ 8192 }
+    requires room { length page.old.items + 3021 ≤ 8192 }
     requires task_value { (task_check task.now ≡ pass) × (route < count_of task.now) × (moves ≡ length_of task.now) }
     ensures items { page.new.items ≡ page.old.items ++ route_line route (task_route task.now route) }
-    ensures upper_bound { array_vec_len page.new ≤ array_vec_len page.old + 3021 }
+    ensures upper_bound { length page.new.items ≤ length page.old.items + 3021 }
 {
     put_decimal(page, route);
     put_route(page, task, route, moves);
@@ -93,7 +92,7 @@ fn put_route_line(page: &mut Page, task: &[u8], route: u64, moves: u64)
 pub fn put_report(page: &mut Page, task: &[u8], plan: Plan)
     requires { (task_check task.now ≡ pass) × (plan ≡ plan_of (start task.now) (goal task.now)) }
     ensures items { page.new.items ≡ report_text (start task.now) (goal task.now) }
-    ensures upper_bound { array_vec_len page.new ≤ 8192 }
+    ensures upper_bound { length page.new.items ≤ 8192 }
 {
     page.clear();
     put_head(page, plan);

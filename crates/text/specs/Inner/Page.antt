@@ -1,14 +1,14 @@
 -- What the reader and the report promise.
 use Rattle.std.specs.Prelude.{ℕ, not, List, [], ◌∷◌, ◌++◌, eqb, length, Result, Ok, Err}
-use Rattle.arrayvec.specs.ArrayVec.{ArrayVec}
 use Rattle.board.specs.Refusal.{number}
 use Rattle.board.specs.Reply.{Reply, refused, answer, ◌>>◌, check}
 use Rattle.board.specs.declared.refusal.Refusal.{Refusal}
+use Rattle.text.specs.Inner.Items.{Items}
 use Rattle.text.specs.Input.{space}
 use Rattle.text.specs.Reading.{is_text, start_in, goal_in}
 
 -- What a list of bytes says, or its refusal.
-abbrev pub bytes_reply : Result (ArrayVec ℕ) Refusal → Reply (List ℕ)
+abbrev pub bytes_reply : Result Items Refusal → Reply (List ℕ)
 bytes_reply (Ok list) = answer list.items
 bytes_reply (Err why) = refused (number why)
 
