@@ -34,9 +34,13 @@ pub decimal_more : (n : ℕ) → 10 ≤ n → decimal n ≡ decimal (n / 10) ++ 
 unfolding decimal decimal_by
 decimal_more n h = rw (le-ltb n 10 h, any_most n (suc (n / 10)) (n / 10) (omega arith) (omega arith))
 
--- So it has one digit more: for the room that is left for them.
-pub decimal_longer : (n : ℕ) → 10 ≤ n → length (decimal n) ≡ length (decimal (n / 10)) + 1
-decimal_longer n h = rw (decimal_more n h, length-append)
+-- So putting those of its tenth and then its last puts all of them: one step of the recursion that puts a number ...
+pub put_more : (front : List ℕ) (n : ℕ) → 10 ≤ n → (front ++ decimal (n / 10)) ++ (digit (n % 10) ∷ []) ≡ front ++ decimal n
+put_more front n h = rw (decimal_more n h, append_assoc)
+
+-- ... and they are one more than those of its tenth.
+pub longer : (n : ℕ) → 10 ≤ n → length (decimal n) ≡ length (decimal (n / 10)) + 1
+longer n h = rw (decimal_more n h, length-append)
 
 -- They are what std prints of a 64-bit number.
 pub decimal_std : (n : ℕ) → n < 2 ^ 64 → printed n ≡ decimal n

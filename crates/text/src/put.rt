@@ -22,6 +22,7 @@ pub fn put(page: &mut Page, bytes: &[u8])
 }
 
 // Puts a number in decimal digits: those of its tenth, where there are any, then its last.
+#[tactic(auto, using(crate::proofs::Numbers::decimal_small, crate::proofs::Numbers::put_more, crate::proofs::Numbers::longer))]
 pub fn put_decimal(page: &mut Page, n: u64)
     requires { length page.old.items + length (decimal n) ≤ 8192 }
     ensures items { page.new.items ≡ page.old.items ++ decimal n }

@@ -57,7 +57,7 @@ const OTHER: [(&str, &str); 16] = [
 
 fn main(rt: HostRuntime) -> io::Result<()> {
     for (name, input) in BOARDS.iter().chain(&FAULTS).chain(&OTHER) {
-        answer_to(&rt, name, input)?;
+        answer_to(&rt, name, input.as_bytes())?;
     }
     lines::all(&rt)
 }
