@@ -8,38 +8,33 @@ mod report;
 
 ghost use Rattle.std.specs.Prelude.{◌≡◌, ◌≤◌, length};
 ghost use Rattle.text.specs.Answer.{text_answer, answer_text, answered_page};
-ghost use Rattle.text.specs.Inner.Page.{bytes_reply};
+ghost use Rattle.text.specs.Inner.Page.{put_reply};
 
 use board::Refusal;
 pub use put::PAGE;
 use put::{Page, put_line};
 pub use read::MOST;
 
-// The report of the task that an input is. Refuses with 12, 1, 2 and 3.
+// Puts the report of the task that an input is at the start of a page. Refuses with 12, 1, 2 and 3.
 #[tactic(auto, using(board::proofs::Replies::goes_up, crate::proofs::Answers::unread, crate::proofs::Answers::unplanned, crate::proofs::Answers::planned, crate::proofs::Answers::reported))]
-fn report_of(input: &[u8]) -> Result<Page, Refusal>
-    ensures { bytes_reply result ≡ text_answer input.now }
+fn put_report_of(page: &mut Page, input: &[u8]) -> Result<(), Refusal>
+    ensures { put_reply result page.new.items ≡ text_answer input.now }
 {
     let digits = read::read_task(input)?;
     let task = digits.as_slice();
     let plan = plan::plan(task)?;
-    let mut page = Page::new();
-    report::put_report(&mut page, task, plan);
-    Ok(page)
+    report::put_report(page, task, plan);
+    Ok(())
 }
 
-// The page of an input: its report, or the line of its refusal.
+// Puts the answer to an input at the start of a page: its report, or the line of its refusal.
 #[tactic(auto, unfolding(crate::specs::Answer::answer_text, crate::specs::Answer::refused_text))]
-fn page_of(input: &[u8]) -> Page
-    ensures { result.items ≡ answer_text input.now }
+fn put_answer(page: &mut Page, input: &[u8])
+    ensures { page.new.items ≡ answer_text input.now }
 {
-    match report_of(input) {
-        Ok(page) => page,
-        Err(why) => {
-            let mut page = Page::new();
-            put_line(&mut page, b"refused ", why.number());
-            page
-        },
+    if let Err(why) = put_report_of(page, input) {
+        page.clear();
+        put_line(page, b"refused ", why.number());
     }
 }
 
@@ -52,7 +47,8 @@ pub fn answer(input: &[u8], page: &mut [u8; PAGE]) -> usize
     ensures page_after { page.new ≡ answered_page input.now page.old }
     ensures upper_bound { result ≤ 8192 }
 {
-    let own = page_of(input);
+    let mut own = Page::new();
+    put_answer(&mut own, input);
     page[..own.len()].copy_from_slice(own.as_slice());
     own.len()
 }

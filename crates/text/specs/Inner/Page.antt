@@ -12,6 +12,11 @@ abbrev pub bytes_reply : Result Items Refusal → Reply (List ℕ)
 bytes_reply (Ok list) = answer list.items
 bytes_reply (Err why) = refused (number why)
 
+-- What is put onto a page, or a refusal.
+abbrev pub put_reply : Result (Unit {0}) Refusal → List ℕ → Reply (List ℕ)
+put_reply (Ok _) page = answer page
+put_reply (Err why) page = refused (number why)
+
 -- What is read: 12, other text; 1, unequal counts; else the digits of both lines.
 unfoldable pub read_answer : List ℕ → Reply (List ℕ)
 read_answer b = do
