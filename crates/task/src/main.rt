@@ -10,6 +10,7 @@ use std::io::Read;
 const MOST: usize = text::MOST + 1;
 
 // Reads until the buffer is full, the input ends or a read fails, and answers how many bytes it put at the start of the buffer.
+// Stays: a loop that counts, since std's own loops read on after an interrupted read, which ends the input here, as any other error does.
 fn read_full(input: &mut impl Read, buffer: &mut [u8]) -> usize
     ensures { result ≤ length buffer.new }
 {
