@@ -11,10 +11,13 @@ use Rattle.board.specs.Reply.{refused, answer, pass}
 use Rattle.board.specs.Task.{limit, discs}
 use Rattle.board.proofs.Obeys.{check_obeys, then_obeys}
 use Rattle.board.proofs.Replies.{then_answered, check_passed}
-use Rattle.route.specs.Answer.{route_check}
+use Rattle.plan.specs.Inner.Read.{read_answer}
+use Rattle.plan.specs.Plan.{plan_of, routes}
+use Rattle.plan.proofs.Calls.{read_ends}
+use Rattle.route.specs.Answer.{count_of, route_check}
 use Rattle.route.proofs.Calls.Lists.{below}
 use Rattle.route.specs.Inner.Open.{Opening, open_answer}
-use Rattle.route.proofs.Calls.Opened.{Routed, route_passed, route_passes, route_obeys, open_answered, open_refused, opened_discs}
+use Rattle.route.proofs.Calls.Opened.{Routed, route_passed, route_passes, route_obeys, open_answered, open_refused, opened_discs, read_unopened}
 use Rattle.wear.specs.Answer.{wear_answer, wear_writes}
 use Rattle.wear.specs.Faults.{wear_faults}
 use Rattle.wear.specs.Wear.{wears_of}
@@ -76,3 +79,26 @@ module _ (t : List ℕ) (r : ℕ) (out : List ℕ) {o : Opening} (e : answer o �
       let o = open_answered t r e in
       let yes = wear_accepts t r out (route_passed t r o.passed) (omega (arith, opened_discs o)) in
       (sym yes, sym (wear_answered t r out yes).wrote)
+
+-- A task that cannot be read has no wears, and nothing is written.
+pub unread : (t : List ℕ) (r : ℕ) (out : List ℕ) {k : ℕ} → refused k ≡ read_answer t → (refused k ≡ wear_answer t r out) × (out ≡ wear_writes t r out)
+unread t r out e = unopened t r out (read_unopened t r e)
+
+module _ (t : List ℕ) (r : ℕ) (out : List ℕ) {s g : List ℕ} (e : answer (s, g) ≡ read_answer t) where
+  -- What is read has the task's routes.
+  counted : routes (plan_of s g) ≡ count_of t
+  counted = let o = read_ends t e in rw (o.from, o.to)
+
+  -- So has one without a route of that number.
+  pub unrouted : routes (plan_of s g) ≤ r → (refused 4 ≡ wear_answer t r out) × (out ≡ wear_writes t r out)
+  unfolding route_check open_answer
+  unrouted none =
+      let o = read_ends t e in
+      unopened t r out (rw (o.accepted, le-ltb r (count_of t) (omega (arith, none, counted))))
+
+  -- One with such a route is opened at it.
+  pub routed : r < routes (plan_of s g) → answer (record { start = s; goal = g; plan = plan_of s g; route = r }) ≡ open_answer t r
+  unfolding open_answer
+  routed known =
+      let o = read_ends t e in
+      rw (o.from, o.to, route_passes t r o.accepted (omega (arith, known, counted)))
