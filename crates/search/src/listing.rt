@@ -1,10 +1,11 @@
 // The checker compared with the legal moves: on what Run writes, and on every list of legal moves.
+ghost use Rattle.std.specs.Prelude.{◌+◌, ◌*◌, ◌≤◌};
+
 use crate::pairs::Pair;
 use crate::position::{MOVES, Position};
 use crate::tally::Count;
 use crate::walking::letter;
 use board::Refusal;
-use std::alloc::{AllocError, Global};
 
 impl Pair<'_> {
     // Whether the checker answers the number of a route to what Run writes of it.
@@ -32,40 +33,48 @@ impl Pair<'_> {
         }
     }
 
-    // A list of legal moves that leads to a position, and each that goes on from there by up to so many moves more.
+    // A list of legal moves that leads to a position, and each that goes on from there by up to so many moves more. The list is the first
+    // letters of an array.
+    // Stays: an array and the length, and no `Vec`: fixed memory, a rule of the project.
     fn compare_lists_from(
         &self,
         at: Position,
-        list: &mut Vec<u8>,
-        more: u64,
+        letters: &mut [u8; 18],
+        length: usize,
+        more: usize,
         lists: &mut Count,
-    ) -> Result<(), AllocError> {
-        lists.add(self.is_checked(list, at));
+    )
+        requires { length + 2 * more ≤ 18 }
+    {
+        lists.add(self.is_checked(&letters[..length], at));
         if more == 0 {
-            return Ok(());
+            return;
         }
         for (from, to) in MOVES {
             if let Some(after) = at.after(from, to) {
-                let length = list.len();
-                list.extend_from_slice(&[letter(from), letter(to)])?;
-                self.compare_lists_from(after, list, more - 1, lists)?;
-                list.truncate(length);
+                letters[length] = letter(from);
+                letters[length + 1] = letter(to);
+                self.compare_lists_from(after, letters, length + 2, more - 1, lists);
             }
         }
-        Ok(())
     }
 
-    // Every list of legal moves from the start, up to one longer than the distance, on boards of up to 3 discs.
-    pub fn compare_lists(&self, alloc: Global, lists: &mut Count) -> Result<(), AllocError> {
+    // Every list of legal moves from the start, up to one longer than the distance, on boards of up to 3 discs. There is room for 9 moves;
+    // a distance above 8 would be a wrong one.
+    pub fn compare_lists(&self, lists: &mut Count) {
         if 3 < self.start.pegs().len() {
-            return Ok(());
+            return;
         }
-        let mut list = Vec::new(alloc);
+        if 8 < self.distance {
+            lists.add(false);
+            return;
+        }
         self.compare_lists_from(
             self.start,
-            &mut list,
-            self.distance.saturating_add(1),
+            &mut [0; 18],
+            0,
+            self.distance as usize + 1,
             lists,
-        )
+        );
     }
 }

@@ -19,7 +19,7 @@
 //            those that end at the goal after as many moves as the distance the number of the route that Run writes so, and else 16
 //   moves    the moves of all of those pairs' shortest lists, by the search
 //   located  the triples of a start, a goal and a position q for which Locate answers as the distances say: where those by way of q add up
-//            to that of the goal, the distance of q as the index and the lowest route on which Place has q there, and else Off
+//            to that of the goal, the distance of q as the index and the lowest route on which Place has q there, and else None
 //   totals   of the two numbers that Totals answers for n, those that are this line's sum and ties
 //   wrong    the comparisons that fail, which the other columns but pairs, sum, ties and moves leave out
 #![tactic(auto)]
@@ -37,7 +37,7 @@ use std::io;
 
 fn main(rt: HostRuntime) -> io::Result<()> {
     for n in 0..7 {
-        let mut tally = pairs::all_pairs(rt.alloc(), n)?;
+        let mut tally = pairs::all_pairs(n);
         tally.add_totals(n as u64);
         println!(rt; "{n} discs: {tally}")?;
     }

@@ -1,17 +1,16 @@
 // Every pair of a start and a goal of a size.
 ghost use Rattle.std.specs.Prelude.{◌≤◌};
 
-use crate::distances::{Reach, all_reaches};
-use crate::position::Position;
+use crate::distances::{Links, Reach, Reaches, link, spread};
+use crate::position::{PLACES, Position};
 use crate::tally::Tally;
-use std::alloc::{AllocError, Global};
 
-// The positions of a size, and how far each is from each.
-// Stays: two lists of one order, walked together by `zip`: one list would be no plainer, since a distance is of two places.
-#[derive(Drop)]
-struct Board {
-    positions: Vec<Position>,
-    reaches: Vec<Vec<Option<Reach>>>,
+// The positions of a size, and the places that are a move from each.
+// Stays: two lists of one order, walked together by `zip`: one list would be no plainer, since a search needs the places alone.
+#[derive(Clone, Copy)]
+struct Board<'a> {
+    positions: &'a [Position],
+    links: &'a Links,
 }
 
 // The task of a start and a goal, with what the search says of it: the distance and the number of shortest lists of moves, and how far
@@ -30,7 +29,7 @@ pub struct Pair<'a> {
 
 impl Pair<'_> {
     // The comparisons of the pair.
-    fn compare(&self, alloc: Global, tally: &mut Tally) -> Result<(), AllocError> {
+    fn compare(&self, tally: &mut Tally) {
         tally.add_pair(self.distance, self.lists);
         let plan = plan::plan(self.task);
         tally
@@ -43,7 +42,7 @@ impl Pair<'_> {
             self.compare_route(route, tally);
         }
         self.compare_positions(&mut tally.located);
-        self.compare_lists(alloc, &mut tally.lists)
+        self.compare_lists(&mut tally.lists);
     }
 
     // The comparisons of a route.
@@ -56,49 +55,61 @@ impl Pair<'_> {
     }
 }
 
-impl Board {
+impl Board<'_> {
     // The comparisons of a start and every goal.
-    fn compare_from(
-        &self,
-        alloc: Global,
-        start: Position,
-        from_start: &[Option<Reach>],
-        tally: &mut Tally,
-    ) -> Result<(), AllocError> {
-        let goals = self.positions.iter().zip(&self.reaches);
-        for ((goal, from_goal), reach) in goals.zip(from_start) {
+    fn compare_from(&self, start: Position, from_start: &Reaches, tally: &mut Tally) {
+        let mut from_goal = [None; PLACES];
+        let goals = self.positions.iter().zip(from_start);
+        for (place, (goal, reach)) in goals.enumerate() {
             // A goal that the search does not reach is a wrong length.
             let Some(reach) = reach else {
                 tally.lengths.add(false);
                 continue;
             };
-            let task = [start.pegs(), goal.pegs()].concat(alloc)?;
+            spread(self.links, place, &mut from_goal);
+            let mut bytes = [0; 12];
             let pair = Pair {
-                task: &task,
+                task: task_of(start, *goal, &mut bytes),
                 start,
                 goal: *goal,
                 distance: reach.moves,
                 lists: reach.lists,
-                positions: &self.positions,
+                positions: self.positions,
                 from_start,
-                from_goal,
+                from_goal: &from_goal,
             };
-            pair.compare(alloc, tally)?;
+            pair.compare(tally);
         }
-        Ok(())
     }
 }
 
+// Writes the task of a start and a goal, and answers it.
+// Stays: an array, and no `concat`, which makes a `Vec`: fixed memory, a rule of the project.
+fn task_of(start: Position, goal: Position, bytes: &mut [u8; 12]) -> &[u8] {
+    let pegs = start.pegs().iter().chain(goal.pegs());
+    for (byte, peg) in bytes.iter_mut().zip(pegs) {
+        *byte = *peg;
+    }
+    &bytes[..start.pegs().len() + goal.pegs().len()]
+}
+
 // The comparisons of every pair of n discs.
-pub fn all_pairs(alloc: Global, n: usize) -> Result<Tally, AllocError>
+pub fn all_pairs(n: usize) -> Tally
     requires { n ≤ 6 }
 {
-    let positions = Position::all(alloc, n)?;
-    let reaches = all_reaches(alloc, &positions)?;
-    let board = Board { positions, reaches };
+    let mut room = [Position::of(n, 0); PLACES];
+    let positions = Position::all(n, &mut room);
+    let mut links = [[None; 3]; PLACES];
+    link(positions, &mut links);
+    let board = Board {
+        positions,
+        links: &links,
+    };
     let mut tally = Tally::default();
-    for (start, from_start) in board.positions.iter().zip(&board.reaches) {
-        board.compare_from(alloc, *start, from_start, &mut tally)?;
+    let mut from_start = [None; PLACES];
+    for (place, start) in positions.iter().enumerate() {
+        spread(&links, place, &mut from_start);
+        board.compare_from(*start, &from_start, &mut tally);
     }
-    Ok(tally)
+    tally
 }

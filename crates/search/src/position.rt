@@ -1,10 +1,14 @@
 // Positions of up to 6 discs, and the legal moves from the rules of the puzzle alone.
 ghost use Rattle.std.specs.Prelude.{◌<◌, ◌≤◌, length, IfSome};
 
-use std::alloc::{AllocError, Global};
-
 // The moves from each peg to each other.
 pub const MOVES: [(u8, u8); 6] = [(0, 1), (0, 2), (1, 0), (1, 2), (2, 0), (2, 1)];
+
+// The pairs of pegs between which a move goes.
+pub const PAIRS: [(u8, u8); 3] = [(0, 1), (1, 2), (2, 0)];
+
+// The places of positions: as many as there are positions of 6 discs.
+pub const PLACES: usize = 729;
 
 // The peg of each disc, from the smallest disc on.
 // Stays: an array with the number of discs beside it, since a list (`Vec`, or the kit's `ArrayVec`) is not `Copy`, and so no plainer.
@@ -15,23 +19,19 @@ pub struct Position {
     ghost few: { discs ≤ 6 },
 }
 
-// Positions three times, with a disc, counted from 0, on each peg.
-fn on_each_peg(
-    alloc: Global,
-    positions: &[Position],
-    disc: usize,
-) -> Result<Vec<Position>, AllocError>
-    requires { disc < 6 }
+// How many positions of so many discs there are: 3^n, up to 6.
+fn count(discs: usize) -> usize
+    ensures { result ≤ 729 }
 {
-    let mut more = Vec::new(alloc);
-    for position in positions {
-        more.extend_from_slice(&[
-            position.with(disc, 0),
-            position.with(disc, 1),
-            position.with(disc, 2),
-        ])?;
+    match discs {
+        0 => 1,
+        1 => 3,
+        2 => 9,
+        3 => 27,
+        4 => 81,
+        5 => 243,
+        _ => 729,
     }
-    Ok(more)
 }
 
 impl Position {
@@ -43,16 +43,27 @@ impl Position {
         self
     }
 
-    // All positions of so many discs.
-    pub fn all(alloc: Global, discs: usize) -> Result<Vec<Position>, AllocError>
+    // The position of a number: in base 3, digit d the peg of disc d, counted from 0.
+    pub fn of(discs: usize, number: usize) -> Position
         requires { discs ≤ 6 }
     {
-        let pegs = [0; 6];
-        let mut positions = vec![in alloc; Position { discs, pegs }]?;
-        for disc in 0..discs {
-            positions = on_each_peg(alloc, &positions, disc)?;
+        let mut pegs = [0; 6];
+        let mut rest = number;
+        for peg in &mut pegs[..discs] {
+            *peg = (rest % 3) as u8;
+            rest /= 3;
         }
-        Ok(positions)
+        Position { discs, pegs }
+    }
+
+    // Writes all positions of so many discs, by their numbers, and answers them.
+    pub fn all(discs: usize, positions: &mut [Position; PLACES]) -> &[Position]
+        requires { discs ≤ 6 }
+    {
+        for (number, position) in positions.iter_mut().enumerate() {
+            *position = Position::of(discs, number);
+        }
+        &positions[..count(discs)]
     }
 
     // The peg of each disc.
@@ -76,5 +87,10 @@ impl Position {
             return None;
         }
         Some(self.with(disc, to))
+    }
+
+    // The position after the one legal move between two pegs, or None where both are empty.
+    pub fn between(self, one: u8, other: u8) -> Option<Position> {
+        self.after(one, other).or(self.after(other, one))
     }
 }
