@@ -9,9 +9,10 @@ pub struct Reach {
 }
 
 // How far each place is from a start, or None where there is no way.
+// Stays: an array, as the places' other lists are, and no `Vec`: fixed memory, a rule of the project.
 pub type Reaches = [Option<Reach>; PLACES];
 
-// The places that are a move from each, by the two pegs between which it goes.
+// The places that are a move from each, one for each pair of pegs between which there is a move.
 pub type Links = [[Option<usize>; 3]; PLACES];
 
 // Places, in the order in which they were reached.
@@ -23,7 +24,7 @@ struct Queue {
 }
 
 impl Queue {
-    // Puts a place at the end. There is room for each place once.
+    // Puts a place at the end. There is room for all places, each of which joins once.
     fn push(&mut self, place: usize) {
         if let Some(last) = self.places.get_mut(self.end) {
             *last = place;
@@ -57,7 +58,7 @@ pub fn link(positions: &[Position], links: &mut Links) {
 
 // Looks from a reached place at others that are a move away. One that is new is a move further, has as many shortest lists, and joins the
 // queue. One that is known to be a move further has these lists besides.
-fn look(from: Reach, places: &[Option<usize>; 3], reaches: &mut Reaches, queue: &mut Queue) {
+fn look(from: Reach, places: &[Option<usize>], reaches: &mut Reaches, queue: &mut Queue) {
     let moves = from.moves.saturating_add(1);
     let lists = from.lists;
     for place in places.iter().flatten() {

@@ -33,8 +33,8 @@ impl Pair<'_> {
         }
     }
 
-    // A list of legal moves that leads to a position, and each that goes on from there by up to so many moves more. The list is the first
-    // letters of an array.
+    // A list of legal moves that leads to a position, as the first letters of an array, and each that goes on from there by up to so many
+    // moves more.
     // Stays: an array and the length, and no `Vec`: fixed memory, a rule of the project.
     fn compare_lists_from(
         &self,
@@ -59,8 +59,8 @@ impl Pair<'_> {
         }
     }
 
-    // Every list of legal moves from the start, up to one longer than the distance, on boards of up to 3 discs. There is room for 9 moves;
-    // a distance above 8 would be a wrong one.
+    // Every list of legal moves from the start, up to one longer than the distance, on boards of up to 3 discs. The array has room for
+    // 9 moves, and a distance above 8 is wrong.
     pub fn compare_lists(&self, lists: &mut Count) {
         if 3 < self.start.pegs().len() {
             return;

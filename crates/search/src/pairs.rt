@@ -66,6 +66,7 @@ impl Board<'_> {
                 tally.lengths.add(false);
                 continue;
             };
+            // Stays: a search for each pair, and no list of all: fixed memory, a rule of the project.
             spread(self.links, place, &mut from_goal);
             let mut bytes = [0; 12];
             let pair = Pair {

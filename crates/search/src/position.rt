@@ -5,9 +5,9 @@ ghost use Rattle.std.specs.Prelude.{◌<◌, ◌≤◌, length, IfSome};
 pub const MOVES: [(u8, u8); 6] = [(0, 1), (0, 2), (1, 0), (1, 2), (2, 0), (2, 1)];
 
 // The pairs of pegs between which a move goes.
-pub const PAIRS: [(u8, u8); 3] = [(0, 1), (1, 2), (2, 0)];
+pub const PAIRS: [(u8, u8); 3] = [(0, 1), (0, 2), (1, 2)];
 
-// The places of positions: as many as there are positions of 6 discs.
+// How many places there are: one for each position of 6 discs.
 pub const PLACES: usize = 729;
 
 // The peg of each disc, from the smallest disc on.
@@ -19,21 +19,6 @@ pub struct Position {
     ghost few: { discs ≤ 6 },
 }
 
-// How many positions of so many discs there are: 3^n, up to 6.
-fn count(discs: usize) -> usize
-    ensures { result ≤ 729 }
-{
-    match discs {
-        0 => 1,
-        1 => 3,
-        2 => 9,
-        3 => 27,
-        4 => 81,
-        5 => 243,
-        _ => 729,
-    }
-}
-
 impl Position {
     // The same position but for one disc, counted from 0.
     fn with(mut self, disc: usize, peg: u8) -> Position
@@ -43,7 +28,7 @@ impl Position {
         self
     }
 
-    // The position of a number: in base 3, digit d the peg of disc d, counted from 0.
+    // The position of so many discs by a number: in base 3, digit d is the peg of disc d, counted from 0.
     pub fn of(discs: usize, number: usize) -> Position
         requires { discs ≤ 6 }
     {
@@ -56,14 +41,15 @@ impl Position {
         Position { discs, pegs }
     }
 
-    // Writes all positions of so many discs, by their numbers, and answers them.
+    // Writes the positions of so many discs by their numbers, and answers all of them, which are 3^n.
+    // Stays: an array that is lent, and no `Vec`: fixed memory, a rule of the project.
     pub fn all(discs: usize, positions: &mut [Position; PLACES]) -> &[Position]
         requires { discs ≤ 6 }
     {
         for (number, position) in positions.iter_mut().enumerate() {
             *position = Position::of(discs, number);
         }
-        &positions[..count(discs)]
+        &positions[..3usize.saturating_pow(discs as u32).min(PLACES)]
     }
 
     // The peg of each disc.
