@@ -1,4 +1,6 @@
 // The breadth-first search.
+ghost use Rattle.std.specs.Prelude.{◌≤◌};
+
 use crate::position::{PAIRS, PLACES, Position};
 
 // How far a position is from a start: the fewest moves, and how many lists of so many moves lead there.
@@ -21,9 +23,18 @@ pub type Links = [[Option<usize>; 3]; PLACES];
 struct Queue {
     places: [usize; PLACES],
     end: usize,
+    ghost within: { end ≤ 729 },
 }
 
 impl Queue {
+    // No places.
+    fn new() -> Queue {
+        Queue {
+            places: [0; PLACES],
+            end: 0,
+        }
+    }
+
     // Puts a place at the end. There is room for all places, each of which joins once.
     fn push(&mut self, place: usize) {
         if let Some(last) = self.places.get_mut(self.end) {
@@ -78,10 +89,7 @@ fn look(from: Reach, places: &[Option<usize>], reaches: &mut Reaches, queue: &mu
 // Writes how far each place is from a start.
 pub fn spread(links: &Links, start: usize, reaches: &mut Reaches) {
     reaches.fill(None);
-    let mut queue = Queue {
-        places: [start; PLACES],
-        end: 0,
-    };
+    let mut queue = Queue::new();
     if let Some(reach) = reaches.get_mut(start) {
         *reach = Some(Reach { moves: 0, lists: 1 });
         queue.push(start);
