@@ -57,7 +57,7 @@ tasks_within zero bytes {k} e = omega (arith, mul-zero k)
 tasks_within (suc n) bytes e = rw e (div-mul-le_self bytes (2 * suc n))
 
 -- They make it up exactly where its length is a multiple of theirs.
-whole_covered : (n : ℕ) (b : List ℕ) → (tasks_in n (length b) * (2 * n) ≡ length b) ↔ Whole n b
+pub whole_covered : (n : ℕ) (b : List ℕ) → (tasks_in n (length b) * (2 * n) ≡ length b) ↔ Whole n b
 whole_covered n b = ((λ e. (tasks_in n (length b), sym e)), λ (j, e). by n j e)
   where
     by : (n j : ℕ) → length b ≡ j * (2 * n) → tasks_in n (length b) * (2 * n) ≡ length b

@@ -1,5 +1,5 @@
 -- Laws of a position by its smallest disc: which moves are legal, and what they leave.
-use Prim.Native.Nat.{ℕ, zero, suc, ◌-◌, ◌/◌, ◌≤◌, ◌<◌}
+use Prim.Native.Nat.{ℕ, zero, suc, ◌+◌, ◌*◌, ◌-◌, ◌/◌, ◌≤◌, ◌<◌}
 use mathlib.Core.Bool.{Bool, true, not, ◌&&◌, and-eq-true_iff}
 use mathlib.Core.List.{List, [], ◌∷◌}
 use mathlib.Core.Logic.{◌≢◌, ◌↔◌}
@@ -72,6 +72,25 @@ tops_held a p i j h hi hj = (
 -- Two bytes as a move.
 abbrev pub pair_move : ℕ → ℕ → Move
 pair_move x y = record { from = read_peg x; to = read_peg y }
+
+-- The bytes of a legal move are letters.
+pub legal_letters : (p : List ℕ) (x y : ℕ) → Legal p (pair_move x y) → (65 ≤ x) × (65 ≤ y) × (x - 65 < 3) × (y - 65 < 3)
+legal_letters p x y legal =
+    let from = legal.from_peg in
+    let to = legal.to_peg in
+    (omega (arith, letter_peg x from), omega (arith, letter_peg y to), omega (arith, letter_peg x from, from), omega (arith, letter_peg y to, to))
+
+-- Move i is that of letters 2 i and 2 i + 1.
+pub moves_at : (l : List ℕ) (i : ℕ) → i < length l / 2
+    → move_in (read_moves l) i ≡ record { from = read_peg (get_or l (2 * i) 0); to = read_peg (get_or l (2 * i + 1) 0) }
+unfolding read_moves
+moves_at [] i h = absurd (omega arith)
+moves_at (a ∷ []) i h = absurd (omega arith)
+moves_at (a ∷ b ∷ l) zero h = refl
+moves_at (a ∷ b ∷ l) (suc i) h =
+    let two : 2 * suc i ≡ suc (suc (2 * i)) = omega arith in
+    let three : 2 * suc i + 1 ≡ suc (suc (2 * i + 1)) = omega arith in
+    rw (three, two) (moves_at l i (omega arith))
 
 -- Pair i of a list is its move i.
 pub pair_entry : (l : List ℕ) (k i : ℕ) → i < k → k ≤ length l / 2

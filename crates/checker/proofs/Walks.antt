@@ -111,7 +111,7 @@ module _ {s : List ℕ} {ms : List Move} {i : ℕ} {k : Discs} (some : 0 < lengt
   walking_tops within = kept_tops w.position w.kept (omega (arith, here_size))
 
   -- The test finds whether it is legal.
-  walking_may : (x y : ℕ) → x < 256 → (may_move k.small k.second k.larger.top x y ≡ true) ↔ Legal w.position (pair_move x y)
+  pub walking_may : (x y : ℕ) → x < 256 → (may_move k.small k.second k.larger.top x y ≡ true) ↔ Legal w.position (pair_move x y)
   walking_may x y byte = by w.position w.kept (leads_formed formed w.leads) (omega (arith, here_size))
     where
       by : (p : List ℕ) → Kept k p → WellFormed p → 0 < length p → (may_move k.small k.second k.larger.top x y ≡ true) ↔ Legal p (pair_move x y)

@@ -59,7 +59,7 @@ module _ (q : ℕ → ℕ) (pegs : (d : ℕ) → q d < 3) where
       (record { disc = omega arith; from = h; to = pegs k })
 
   -- The leg after a leg is of the same discs.
-  next_within : (k : ℕ) (l : Leg) → LegWithin k l → LegWithin k (next_leg l q)
+  pub next_within : (k : ℕ) (l : Leg) → LegWithin k l → LegWithin k (next_leg l q)
   unfolding next_leg
   next_within k l w =
       let on = third_peg l.from l.to w.from in
@@ -80,7 +80,7 @@ module _ (s : Stepper) (q : ℕ → ℕ) where
 
 module _ (s : Stepper) (g : List ℕ) (may : Safe s g) where
   -- Where nothing is left to gather, the leg is of discs of the goal, and its peg has a disc to carry.
-  safe_leg : s.turn.left ≡ 0 → LegWithin (length g) s.leg × Carries s.pegs.top s.leg.from
+  pub safe_leg : s.turn.left ≡ 0 → LegWithin (length g) s.leg × Carries s.pegs.top s.leg.from
   unfolding leg_turn
   safe_leg h =
       let is = step_leg s (peg g) h in

@@ -5,7 +5,6 @@ use crate::pairs::Pair;
 use crate::position::{MOVES, Position};
 use crate::tally::Count;
 use crate::walking::letter;
-use board::Refusal;
 
 impl Pair<'_> {
     // Whether the checker answers the number of a route to what Run writes of it.
@@ -29,7 +28,7 @@ impl Pair<'_> {
         let is_shortest = list.len() as u64 / 2 == self.distance && to == self.goal;
         match checker::check_route(self.task, list) {
             Ok(route) => is_shortest && self.is_written(route, list),
-            Err(why) => !is_shortest && why == Refusal::NotShortest,
+            Err(why) => !is_shortest && why.number() == 16,
         }
     }
 

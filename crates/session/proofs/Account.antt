@@ -11,11 +11,16 @@ use Rattle.session.specs.Counts.{play_limit, no_plays, mark_of, counted, counts_
 use Rattle.session.specs.declared.counting.Counts.{Counts}
 use Rattle.session.proofs.Marks.{mark_one, mark_balance}
 
--- Counts that agree are few enough, and none of them is above the plays made.
+-- Counts that agree add up, and are few enough.
+pub counts_sum : (c : Counts) → counts_agree c ≡ true → c.made ≡ c.toward + c.level + c.away
+unfolding counts_agree
+counts_sum c h = grind (arith, nat_tests)
+
 pub counts_few : (c : Counts) → counts_agree c ≡ true → c.made ≤ play_limit
 unfolding counts_agree
 counts_few c h = grind (arith, nat_tests)
 
+-- So none of them is above the plays made.
 pub counts_within : (c : Counts) → counts_agree c ≡ true → c.toward + c.level + c.away ≤ c.made
 unfolding counts_agree
 counts_within c h = grind (arith, nat_tests)

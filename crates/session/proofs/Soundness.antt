@@ -1,5 +1,5 @@
 -- A sound record: the test passes exactly where it is one, and what the functions need of it.
-use Prim.Native.Nat.{ℕ, ◌+◌, ◌≤◌, ◌<◌, ◌^◌}
+use Prim.Native.Nat.{ℕ, ◌+◌, ◌-◌, ◌≤◌, ◌<◌, ◌^◌}
 use mathlib.Core.Bool.{true}
 use mathlib.Core.List.{List}
 use mathlib.Core.Logic.{◌↔◌}
@@ -8,9 +8,11 @@ use native.Mathlib.Omega.{arith}
 use lib.ListN.{length, take}
 use lib.Seq.{length-take-le}
 use Rattle.std.proofs.lemmas.Bool.Decides.{nat_tests}
-use Rattle.board.specs.Held.{HoldsPosition}
+use Rattle.board.specs.Held.{padded, HoldsPosition}
+use Rattle.board.specs.Position.{WellFormed}
 use Rattle.board.specs.Task.{limit}
 use Rattle.board.proofs.Arrays.{holds_exactly, held_formed}
+use Rattle.board.proofs.Formed.{formed_append, formed_replicate}
 use Rattle.plan.specs.Inner.Sound.{Ends}
 use Rattle.plan.proofs.Sound.{ends_fewest, ends_fit}
 use Rattle.session.specs.Record.{start_of, goal_of, current_of, first_of, now_of, positions_held, sound, PositionsHeld, Sound}
@@ -73,6 +75,10 @@ pub record Sized (s : Session) : Type 0 where
   pub goal_size : length s.goal ≡ limit
   pub current_size : length s.current ≡ limit
 
+-- A position's array is well formed where the position is.
+pub padded_formed : (p : List ℕ) → WellFormed p → WellFormed (padded p)
+padded_formed p h = formed_append p _ h (formed_replicate (limit - length p) 0 (omega arith))
+
 -- Two arrays that hold positions of n discs are ends.
 held_ends : (n : ℕ) (a b : List ℕ) → n ≤ limit → length a ≡ limit → length b ≡ limit
     → HoldsPosition n a → HoldsPosition n b → Ends (take n a) (take n b)
@@ -94,8 +100,11 @@ module _ {s : Session} (z : Sized s) (p : PositionsHeld s) where
   remaining_fits e = omega (arith, ends_fewest current_ends, ends_fit current_ends)
 
   -- Its current position has n discs.
+  pub current_room : s.n ≤ length s.current
+  current_room = omega (arith, p.few, z.current_size)
+
   pub current_length : length (current_of s) ≡ s.n
-  current_length = length-take-le s.n s.current (omega (arith, p.few, z.current_size))
+  current_length = length-take-le s.n s.current current_room
 
 -- The plays made and the fewest that remain are together never below the fewest at the start (02, CR 2) ..
 pub sound_covers : {s : Session} → Sound s → first_of s ≤ s.counts.made + now_of s

@@ -1,5 +1,5 @@
 -- What is answered to the bytes of an input: what is read of them, and then the report of the task that it is.
-use Prim.Native.Nat.{ℕ, ◌%◌}
+use Prim.Native.Nat.{ℕ, ◌%◌, ◌≤◌}
 use mathlib.Core.Path.{◌≡◌, refl, sym}
 use mathlib.Core.Bool.{Bool, true, false, not}
 use mathlib.Core.List.{List, ◌++◌}
@@ -7,7 +7,8 @@ use mathlib.Core.Logic.{◌≢◌}
 use native.Mathlib.Omega.{arith}
 use borrow.Author.Tests.{eqb-true, ne_eqb}
 use lib.Dec.{eqb, ltb}
-use lib.ListN.{length, length-append}
+use lib.ListN.{length, length-append, take, drop}
+use lib.Seq.{sets, sets-eq, take-append_seam}
 use Rattle.board.specs.Position.{well_formed}
 use Rattle.board.specs.Reply.{Reply, refused, answer, pass, ◌>>◌, ◌>>=◌, check}
 use Rattle.board.specs.Task.{limit, start, goal, task_check}
@@ -19,7 +20,7 @@ use Rattle.plan.specs.declared.answer.Plan.{Plan}
 use Rattle.plan.proofs.Calls.{plan_answered, plan_refused}
 use Rattle.text.specs.Reading.{is_text, start_in, goal_in}
 use Rattle.text.specs.Report.{report_text}
-use Rattle.text.specs.Answer.{text_answer, answer_text, refused_text}
+use Rattle.text.specs.Answer.{text_answer, answer_text, answered_page, refused_text}
 use Rattle.text.specs.Inner.Page.{read_answer}
 
 -- Two positions of one size are checked as their task is.
@@ -73,3 +74,12 @@ reported b {t} e made = rw (answer_read b, ← e, (planned t made).0)
 pub other_text : (b : List ℕ) → is_text b ≡ false → answer_text b ≡ refused_text 12
 unfolding answer_text text_answer
 other_text b h = rw h
+
+-- What is put at the start of a page is what is read there.
+pub put_read : (page t : List ℕ) → length t ≤ length page → take (length t) (sets page 0 t) ≡ t
+put_read page t room = rw (sets-eq t page 0 (omega arith)) (take-append_seam t _)
+
+-- The answer ends on the page that it is put onto.
+pub answer_within : (b page : List ℕ) → length (answer_text b) ≤ length (answered_page b page)
+unfolding answered_page
+answer_within b page = omega (arith, length-append (answer_text b) (drop (length (answer_text b)) page))

@@ -42,6 +42,15 @@ put_more front n h = rw (decimal_more n h, append_assoc)
 pub longer : (n : ℕ) → 10 ≤ n → length (decimal n) ≡ length (decimal (n / 10)) + 1
 longer n h = rw (decimal_more n h, length-append)
 
+-- A number below 10 ^ k has at most k digits, k at least 1.
+pub decimal_length : (k n : ℕ) → n < 10 ^ suc k → length (decimal n) ≤ suc k
+decimal_length zero n h = rw (decimal_small n (omega arith)) (omega arith)
+decimal_length (suc k) n h =
+    elim (dec_lt n 10) [
+      | yes l ↦ rw (decimal_small n l) (omega arith)
+      | no l ↦ rw (decimal_more n (omega arith), length-append) (omega (arith, decimal_length k (n / 10) (omega arith)))
+    ]
+
 -- They are what std prints of a 64-bit number.
 pub decimal_std : (n : ℕ) → n < 2 ^ 64 → printed n ≡ decimal n
 unfolding decimal decimal_by

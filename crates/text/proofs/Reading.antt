@@ -27,6 +27,11 @@ unfolding lines
 lines_count b =
     is_count_by lines (λ c. eqb c newline) refl (λ c b. let e : 1 + lines b ≡ suc (lines b) = omega arith in rw e) b
 
+-- No line ends in no bytes.
+pub lines_none : (b : List ℕ) (i : ℕ) → length b ≤ i → lines (drop i b) ≡ 0
+unfolding lines
+lines_none b i h = rw (drop_of_length-le b h)
+
 -- A text has at most 512 bytes: so its digits have room.
 pub text_fits : (b : List ℕ) → is_text b ≡ true → length b ≤ 512
 unfolding is_text

@@ -27,7 +27,7 @@ spaced_letters [] = refl
 spaced_letters (m ∷ ms) = rw (spaced_letters ms)
 
 -- A route has as many moves as the plan says.
-long : (t : List ℕ) (r : ℕ) → task_check t ≡ pass → r < count_of t → length (task_route t r) ≡ length_of t
+pub long : (t : List ℕ) (r : ℕ) → task_check t ≡ pass → r < count_of t → length (task_route t r) ≡ length_of t
 long t r accepted known = route_length t r (accepted_routed t accepted r known)
 
 -- The text of a route of more than 1,000 moves is the word long ...
