@@ -6,8 +6,8 @@ use crate::position::{PAIRS, PLACES, Position};
 // How far a position is from a start: the fewest moves, and how many lists of so many moves lead there.
 #[derive(Clone, Copy)]
 pub struct Reach {
-    pub moves: u64,
-    pub lists: u64,
+    pub moves: u32,
+    pub lists: u32,
 }
 
 // How far each place is from a start, or None where there is no way.
@@ -15,7 +15,7 @@ pub struct Reach {
 pub type Reaches = [Option<Reach>; PLACES];
 
 // The places that are a move from each, one for each pair of pegs between which there is a move.
-pub type Links = [[Option<usize>; 3]; PLACES];
+pub type Links = [[Option<u16>; 3]; PLACES];
 
 // Places, in the order in which they were reached.
 // Stays: an array and its end, and no `VecDeque`: fixed memory, a rule of the project.
@@ -53,10 +53,11 @@ impl Queue {
 }
 
 // The places, among all positions, of those that are a move from a position.
-fn next_to(positions: &[Position], position: Position) -> [Option<usize>; 3] {
+fn next_to(positions: &[Position], position: Position) -> [Option<u16>; 3] {
     PAIRS.map(|(one, other)| {
         let after = position.between(one, other)?;
-        positions.iter().position(|at| *at == after)
+        let place = positions.iter().position(|at| *at == after)?;
+        u16::try_from(place).ok()
     })
 }
 
@@ -69,17 +70,18 @@ pub fn link(positions: &[Position], links: &mut Links) {
 
 // Looks from a reached place at others that are a move away. One that is new is a move further, has as many shortest lists, and joins the
 // queue. One that is known to be a move further has these lists besides.
-fn look(from: Reach, places: &[Option<usize>], reaches: &mut Reaches, queue: &mut Queue) {
+fn look(from: Reach, places: &[Option<u16>], reaches: &mut Reaches, queue: &mut Queue) {
     let moves = from.moves.saturating_add(1);
     let lists = from.lists;
     for place in places.iter().flatten() {
-        match reaches.get_mut(*place) {
+        let place = usize::from(*place);
+        match reaches.get_mut(place) {
             Some(Some(known)) if known.moves == moves => {
                 known.lists = known.lists.saturating_add(lists);
             }
             Some(new @ None) => {
                 *new = Some(Reach { moves, lists });
-                queue.push(*place);
+                queue.push(place);
             }
             _ => {}
         }

@@ -13,8 +13,8 @@ impl Pair<'_> {
 
     // The index on a shortest route of a position so far from the start and from the goal, if it is on one.
     fn index(&self, there: Option<Reach>, back: Option<Reach>) -> Option<u64> {
-        let there = there?.moves;
-        let back = back?.moves;
+        let there = u64::from(there?.moves);
+        let back = u64::from(back?.moves);
         (there.saturating_add(back) == self.distance).then_some(there)
     }
 

@@ -13,6 +13,7 @@ ghost use Rattle.text.specs.Inner.Page.{put_reply};
 use board::Refusal;
 pub use put::PAGE;
 use put::{Page, put_line};
+use read::Digits;
 pub use read::MOST;
 
 // Puts the report of the task that an input is at the start of a page. Refuses with 12, 1, 2 and 3.
@@ -20,7 +21,8 @@ pub use read::MOST;
 fn put_report_of(page: &mut Page, input: &[u8]) -> Result<(), Refusal>
     ensures { put_reply result page.new.items ≡ text_answer input.now }
 {
-    let digits = read::read_task(input)?;
+    let mut digits = Digits::new();
+    read::read_task(input, &mut digits)?;
     let task = digits.as_slice();
     let plan = plan::plan(task)?;
     report::put_report(page, task, plan);

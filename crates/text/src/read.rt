@@ -1,6 +1,6 @@
 // The reader: two lines, each a position in single digits.
-ghost use Rattle.std.specs.Prelude.{◌++◌, ◌≡◌, ◌+◌, ◌≤◌, length};
-ghost use Rattle.text.specs.Inner.Page.{bytes_reply, read_answer};
+ghost use Rattle.std.specs.Prelude.{[], ◌++◌, ◌≡◌, ◌+◌, ◌≤◌, length};
+ghost use Rattle.text.specs.Inner.Page.{put_reply, read_answer};
 ghost use Rattle.text.specs.Reading.{follow, follow_all, lines, is_bracket, is_text, digits as digits_of, line_end};
 ghost use Rattle.text.specs.declared.read.Next.TheVariants.{Bracket};
 
@@ -98,21 +98,22 @@ fn put_digits(digits: &mut Digits, bytes: &[u8])
     }
 }
 
-// The digits of both lines, the goal's straight after the start's. Refuses with 12, and with 1 where one line has more of them.
+// Puts the digits of both lines onto an empty list, the goal's straight after the start's. Refuses with 12, and with 1 where one line has
+// more of them.
 #[tactic(auto, using(std::proofs::lemmas::Bool::Decides::nat_tests, crate::proofs::Reading::text_fits, crate::proofs::Reading::digits_few), unfolding(crate::specs::Inner::Page::read_answer, crate::specs::Reading::start_in, crate::specs::Reading::goal_in))]
-pub fn read_task(input: &[u8]) -> Result<Digits, Refusal>
-    ensures { bytes_reply result ≡ read_answer input.now }
+pub fn read_task(input: &[u8], digits: &mut Digits) -> Result<(), Refusal>
+    requires { digits.old.items ≡ [] }
+    ensures { put_reply result digits.new.items ≡ read_answer input.now }
 {
     if !is_text(input) {
         return Err(Refusal::BadText);
     }
     let (first, second) = input.split_at(line_end(input));
-    let mut digits = Digits::new();
-    put_digits(&mut digits, first);
+    put_digits(digits, first);
     let start = digits.len();
-    put_digits(&mut digits, second);
+    put_digits(digits, second);
     if digits.len() - start != start {
         return Err(Refusal::OddLength);
     }
-    Ok(digits)
+    Ok(())
 }

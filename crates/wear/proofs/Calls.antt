@@ -89,7 +89,7 @@ module _ (t : List ℕ) (r : ℕ) (out : List ℕ) {s g : List ℕ} (e : answer 
   counted : routes (plan_of s g) ≡ count_of t
   counted = let o = read_ends t e in rw (o.from, o.to)
 
-  -- So has one without a route of that number.
+  -- Without a route of that number it is refused with 4, and nothing is written.
   pub unrouted : routes (plan_of s g) ≤ r → (refused 4 ≡ wear_answer t r out) × (out ≡ wear_writes t r out)
   unfolding route_check open_answer
   unrouted none =

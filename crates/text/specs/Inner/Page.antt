@@ -3,19 +3,13 @@ use Rattle.std.specs.Prelude.{ℕ, not, List, [], ◌∷◌, ◌++◌, eqb, leng
 use Rattle.board.specs.Refusal.{number}
 use Rattle.board.specs.Reply.{Reply, refused, answer, ◌>>◌, check}
 use Rattle.board.specs.declared.refusal.Refusal.{Refusal}
-use Rattle.text.specs.Inner.Items.{Items}
 use Rattle.text.specs.Input.{space}
 use Rattle.text.specs.Reading.{is_text, start_in, goal_in}
 
--- What a list of bytes says, or its refusal.
-abbrev pub bytes_reply : Result Items Refusal → Reply (List ℕ)
-bytes_reply (Ok list) = answer list.items
-bytes_reply (Err why) = refused (number why)
-
--- What is put onto a page, or a refusal.
+-- What is put onto a list of bytes, or a refusal.
 abbrev pub put_reply : Result (Unit {0}) Refusal → List ℕ → Reply (List ℕ)
-put_reply (Ok _) page = answer page
-put_reply (Err why) page = refused (number why)
+put_reply (Ok _) items = answer items
+put_reply (Err why) items = refused (number why)
 
 -- What is read: 12, other text; 1, unequal counts; else the digits of both lines.
 unfoldable pub read_answer : List ℕ → Reply (List ℕ)
