@@ -16,15 +16,15 @@ returns-then-letters-eq1 c = letters_refuses _ _ _ (inl (inl c.if-letters-eq1.tr
 pub returns-then-only_letters : goal.returns-then-only_letters
 returns-then-only_letters c =
     let check = ended_check _ _ _ _ c.walk-made.ensures c.if-letters-eq1.false c.args.task.now.ends in
-    let left = rw part_to_end at c.only_letters.ensures in
-    grind (arith, nat_tests)
+    let left = c.only_letters.ensures in
+    grind (arith, nat_tests, part_to_end)
 
 -- Some byte is no letter.
 pub returns-else-only_letters : goal.returns-else-only_letters
 returns-else-only_letters c =
     let check = ended_check _ _ _ _ c.walk-made.ensures c.if-letters-eq1.false c.args.task.now.ends in
-    let left = rw part_to_end at c.only_letters.ensures in
-    grind (arith, nat_tests)
+    let left = c.only_letters.ensures in
+    grind (arith, nat_tests, part_to_end)
 
 -- The moves are the fewest, and lead to the goal.
 pub returns-then-there : goal.returns-then-there
